@@ -1,0 +1,2 @@
+-- `Lookup` has the table that entries make.
+pub mod Lookup

@@ -1,0 +1,2 @@
+-- `Counts` has the laws by which the entries that a replacement leaves are counted.
+pub mod Counts

@@ -1,0 +1,49 @@
+-- `entries::check` meets its contract. Each answer is what the test that gives it says.
+-- Assumes nothing.
+use borrow.Author.Needs.{needs}
+use borrow.Author.Tests.{not-true, not-false}
+use Rattle.entries.proofs.check.Statement.{statement}
+use Rattle.entries.proofs.check.Tie as tie
+
+rises-requires : tie.Need-rises-requires
+rises-requires c κs = search needs
+
+returns : tie.Need-returns
+returns c =
+    let r = c .before .rises in
+    record { is = λ h. r .ensures .no (not-true (r .result) (c .if1 .taken)) (h .fits-keys) (h .rising) }
+
+inside-requires : tie.Need-inside-requires
+inside-requires c κs = search needs
+
+returns-2 : tie.Need-returns-2
+returns-2 c =
+    let r = c .before .inside in
+    record { is = λ h. r .ensures .no (not-true (r .result) (c .if2 .taken)) (h .fits-ats) (h .fits-lens) (h .inside) }
+
+short-requires : tie.Need-short-requires
+short-requires c κs = search needs
+
+returns-3 : tie.Need-returns-3
+returns-3 c =
+    let r = c .before .short in
+    record { is = r .ensures .no (not-true (r .result) (c .if3 .taken)) }
+
+returns-4 : tie.Need-returns-4
+returns-4 c =
+    let r = c .before .before .before .before .before .rises in
+    let i = c .before .before .before .inside in
+    let s = c .before .short in
+    let up = r .ensures .yes (not-false (r .result) (c .before .before .before .before .if1 .left)) in
+    let in-bytes = i .ensures .yes (not-false (i .result) (c .before .before .if2 .left)) in
+    record {
+      is = (
+        record { fits-keys = up .0; fits-ats = in-bytes .0; fits-lens = in-bytes .1; rising = up .1; inside = in-bytes .2 },
+        s .ensures .yes (not-false (s .result) (c .if3 .left)),
+      );
+    }
+
+pub check-spec : {M : Type 1} → statement M
+check-spec =
+    tie.close
+    (tie.spec rises-requires returns inside-requires returns-2 short-requires returns-3 returns-4)

@@ -1,0 +1,233 @@
+// Replacing a range by a list of entries. The list is handed in as columns of m places: keys, which
+// rise strictly, and where in the bytes each value stands.
+use columns::Spot;
+use keys::Bound;
+use limits::VALUE_MAX;
+use records::Stored;
+ghost use Prim.Native.Nat.{_≤_};
+ghost use lib.ListN.{length};
+ghost use Rattle.entries.specs.Answers.{Left, AfterReplace};
+ghost use Rattle.entries.specs.Inner.{CheckCases, Checked, Inside, Short, IsNew, AfterOne, AfterStores};
+
+// What a replacement answers: how many entries there are now, or a refusal, and then nothing has
+// changed.
+pub enum Replaced {
+    Entries(usize),
+    Full,
+    TooLong,
+    Malformed,
+}
+
+// What a look at the list finds.
+enum Look {
+    Fine,
+    Long,
+    Bad,
+}
+
+// How many entries replacing the range by entries with these keys would leave.
+pub fn left(keys: &[u64], n: usize, lo: Bound, hi: Bound, ks: &[u64], m: usize) -> usize
+    ensures { λ r. ⌜ Left (now (keys .entry)) n lo hi (now (ks .entry)) m r ⌝ }
+{
+    if keys.len() < n {
+        return 0;
+    }
+    if ks.len() < m {
+        return 0;
+    }
+    let mut left = n - ranges::count(keys, n, lo, hi);
+    let mut t: usize = 0;
+    while t < m {
+        if is_new(keys, n, lo, hi, ks[t]) {
+            left += 1;
+        }
+        t += 1;
+    }
+    left
+}
+
+// Does the key get a place of its own, since it has no entry outside the range?
+fn is_new(keys: &[u64], n: usize, lo: Bound, hi: Bound, key: u64) -> bool
+    ensures { λ r. ⌜ IsNew (now (keys .entry)) n lo hi key r ⌝ }
+{
+    if keys::contains(lo, hi, key) {
+        return true;
+    }
+    let spot = columns::seek(keys, n, key);
+    match spot {
+        Spot::Old(_) => false,
+        Spot::New(_) => true,
+    }
+}
+
+// Replaces the range by the entries.
+pub fn replace(
+    keys: &mut [u64],
+    slots: &mut [u64],
+    lens: &mut [u64],
+    values: &mut [u8],
+    n: usize,
+    lo: Bound,
+    hi: Bound,
+    ks: &[u64],
+    ats: &[u64],
+    ls: &[u64],
+    m: usize,
+    bytes: &[u8],
+) -> Replaced
+    ensures { λ r. ⌜ AfterReplace (now (keys .entry)) (now (slots .entry)) (now (lens .entry)) (now (values .entry)) n lo hi
+        (now (ks .entry)) (now (ats .entry)) (now (ls .entry)) (now (bytes .entry)) m r
+        (now (keys .exit)) (now (slots .exit)) (now (lens .exit)) (now (values .exit)) ⌝ }
+{
+    let look = check(ks, ats, ls, m, bytes);
+    match look {
+        Look::Bad => Replaced::Malformed,
+        Look::Long => Replaced::TooLong,
+        Look::Fine => enter(keys, slots, lens, values, n, lo, hi, ks, ats, ls, m, bytes),
+    }
+}
+
+// The same, for a list that is well formed and has no value that is too long.
+fn enter(
+    keys: &mut [u64],
+    slots: &mut [u64],
+    lens: &mut [u64],
+    values: &mut [u8],
+    n: usize,
+    lo: Bound,
+    hi: Bound,
+    ks: &[u64],
+    ats: &[u64],
+    ls: &[u64],
+    m: usize,
+    bytes: &[u8],
+) -> Replaced
+    requires { ⌜ CheckCases Look.Fine (now ks) (now ats) (now ls) (now bytes) m ⌝ }
+    ensures { λ r. ⌜ AfterReplace (now (keys .entry)) (now (slots .entry)) (now (lens .entry)) (now (values .entry)) n lo hi
+        (now (ks .entry)) (now (ats .entry)) (now (ls .entry)) (now (bytes .entry)) m r
+        (now (keys .exit)) (now (slots .exit)) (now (lens .exit)) (now (values .exit)) ⌝ }
+{
+    if slots.len() < left(keys, n, lo, hi, ks, m) {
+        return Replaced::Full;
+    }
+    let rest = records::remove(keys, slots, n, lo, hi);
+    let now = store(keys, slots, lens, values, rest, ks, ats, ls, m, bytes);
+    Replaced::Entries(now)
+}
+
+// Is the list well formed, and no value too long?
+fn check(ks: &[u64], ats: &[u64], ls: &[u64], m: usize, bytes: &[u8]) -> Look
+    ensures { λ r. ⌜ Checked (now (ks .entry)) (now (ats .entry)) (now (ls .entry)) (now (bytes .entry)) m r ⌝ }
+{
+    if !columns::rises(ks, m) {
+        return Look::Bad;
+    }
+    if !inside(ats, ls, m, bytes.len()) {
+        return Look::Bad;
+    }
+    if !short(ls, m) {
+        return Look::Long;
+    }
+    Look::Fine
+}
+
+// Does each of the m parts lie within that many bytes?
+fn inside(ats: &[u64], ls: &[u64], m: usize, size: usize) -> bool
+    ensures { λ r. ⌜ Inside (now (ats .entry)) (now (ls .entry)) m size r ⌝ }
+{
+    if ats.len() < m {
+        return false;
+    }
+    if ls.len() < m {
+        return false;
+    }
+    let mut i: usize = 0;
+    while i < m {
+        let at = ats[i] as usize;
+        let len = ls[i] as usize;
+        if size < at {
+            return false;
+        }
+        if size - at < len {
+            return false;
+        }
+        i += 1;
+    }
+    true
+}
+
+// Is none of the m values too long?
+fn short(ls: &[u64], m: usize) -> bool
+    ensures { λ r. ⌜ Short (now (ls .entry)) m r ⌝ }
+{
+    let mut i: usize = 0;
+    while i < m {
+        if ls.len() <= i {
+            return true;
+        }
+        if VALUE_MAX < ls[i] as usize {
+            return false;
+        }
+        i += 1;
+    }
+    true
+}
+
+// Stores the m entries one after the other, and answers how many entries there are then.
+fn store(
+    keys: &mut [u64],
+    slots: &mut [u64],
+    lens: &mut [u64],
+    values: &mut [u8],
+    n: usize,
+    ks: &[u64],
+    ats: &[u64],
+    ls: &[u64],
+    m: usize,
+    bytes: &[u8],
+) -> usize
+    requires { ⌜ (m ≤ length (now ks)) × (m ≤ length (now ats)) × (m ≤ length (now ls)) ⌝ }
+    ensures { λ r. ⌜ AfterStores (now (keys .entry)) (now (slots .entry)) (now (lens .entry)) (now (values .entry)) n
+        (now (ks .entry)) (now (ats .entry)) (now (ls .entry)) (now (bytes .entry)) m r
+        (now (keys .exit)) (now (slots .exit)) (now (lens .exit)) (now (values .exit)) ⌝ }
+{
+    let mut now = n;
+    let mut t: usize = 0;
+    while t < m {
+        let at = ats[t] as usize;
+        let len = ls[t] as usize;
+        now = store_one(keys, slots, lens, values, now, ks[t], at, len, bytes);
+        t += 1;
+    }
+    now
+}
+
+// Stores one entry. What does not fit is passed over: that never happens after the checks above.
+fn store_one(
+    keys: &mut [u64],
+    slots: &mut [u64],
+    lens: &mut [u64],
+    values: &mut [u8],
+    n: usize,
+    key: u64,
+    at: usize,
+    len: usize,
+    bytes: &[u8],
+) -> usize
+    ensures { λ r. ⌜ AfterOne (now (keys .entry)) (now (slots .entry)) (now (lens .entry)) (now (values .entry)) n key at len
+        (now (bytes .entry)) r (now (keys .exit)) (now (slots .exit)) (now (lens .exit)) (now (values .exit)) ⌝ }
+{
+    if bytes.len() < at {
+        return n;
+    }
+    if bytes.len() - at < len {
+        return n;
+    }
+    let end = at + len;
+    let answer = records::set(keys, slots, lens, values, n, key, &bytes[at..end]);
+    match answer {
+        Stored::Entries(now) => now,
+        Stored::Full => n,
+        Stored::TooLong => n,
+    }
+}

@@ -1,0 +1,7 @@
+-- The numbers that the documents name, for definitions; src/lib.rt has the same numbers for code.
+-- Assumes nothing.
+use Prim.Native.Nat.{ℕ}
+
+-- the most bytes that a value may have
+abbrev pub valueMax : ℕ
+valueMax = 1023
