@@ -120,6 +120,39 @@ order-trans a b c p q = rw (equal-order a b p) q
 pub order-flip : (a b : Bound) → (order a b ≡ Less) ↔ (order b a ≡ Greater)
 order-flip a b = ((λ p. order-greater b a (less-order a b p)), (λ p. order-less a b (greater-order b a p)))
 
+-- ---- upstream's clauses about `order` in its own words, where the laws above speak of `below`. "At most" is "not Greater"
+
+-- upstream: zero_properties
+pub zero-less : (k : ℕ) → (k ≡ 0 → ⊥) → order (Key 0) (Key k) ≡ Less
+zero-less k h = order-less (Key 0) (Key k) (zero-least k h)
+
+-- upstream: connected
+pub order-connected : (a b : Bound) → (order a b ≡ Equal → ⊥) → (order a b ≡ Less) ⊎ (order b a ≡ Less)
+order-connected a b n = go (below-connected a b)
+  where
+    go : (below a b ≡ true) ⊎ ((below b a ≡ true) ⊎ (a ≡ b)) → (order a b ≡ Less) ⊎ (order b a ≡ Less)
+    go (inl e) = inl (order-less a b e)
+    go (inr (inl e)) = inr (order-less b a e)
+    go (inr (inr e)) = absurd (n (rw e (order-refl b)))
+
+-- what is not Greater is not above
+not-above : (a b : Bound) → (order a b ≡ Greater → ⊥) → below b a ≡ false
+not-above a b n = go (below b a) refl
+  where
+    go : (t : Bool) → below b a ≡ t → below b a ≡ false
+    go true e = absurd (n (order-greater a b e))
+    go false e = e
+
+-- upstream: transitivity of inequality, in its three forms
+pub less-trans : (a b c : Bound) → order a b ≡ Less → order b c ≡ Less → order a c ≡ Less
+less-trans a b c p q = order-less a c (below-trans a b c (less-order a b p) (less-order b c q))
+
+pub less-le : (a b c : Bound) → order a b ≡ Less → (order b c ≡ Greater → ⊥) → order a c ≡ Less
+less-le a b c p n = order-less a c (below-le a b c (less-order a b p) (not-above b c n))
+
+pub le-less : (a b c : Bound) → (order a b ≡ Greater → ⊥) → order b c ≡ Less → order a c ≡ Less
+le-less a b c n q = order-less a c (le-below a b c (not-above a b n) (less-order b c q))
+
 -- ---- ranges
 
 -- k is at lo or above it; k lies under hi: the two halves of `holds`, as facts on numbers
@@ -170,3 +203,7 @@ holds-lo a End e = holds-true (Key a) End a (omega arith) tt
 pub holds-nonempty : (lo hi : Bound) → below lo hi ≡ true → (k : ℕ) × (holds lo hi k ≡ true)
 holds-nonempty (Key a) hi e = (a, holds-lo a hi e)
 holds-nonempty End hi e = absurd (false≢true e)
+
+-- the range from the key 0 to end holds every key
+pub holds-all : (k : ℕ) → holds (Key 0) End k ≡ true
+holds-all k = holds-true (Key 0) End k (omega arith) tt

@@ -1,4 +1,5 @@
--- The laws of tables: all that a caller of this crate may go by. They speak of tables, of `Size` and of `Keeps` as a whole, never of keys in
+-- The laws of tables: all that a caller may go by, of this crate and of `ranges`, `entries` and `audits`, which work on the same memory and know
+-- how it is laid out. They speak of tables, of `Size` and of `Keeps` as a whole, never of keys in
 -- rising order or of slots, so the table can be kept another way (found through hints, or by hashing) and no caller's proof changes.
 --     put-same, put-other            what one entry set changes, and what not
 --     removed-in, removed-out        the same for a range taken out
@@ -6,12 +7,13 @@
 --     replaced-at, -in, -out         and for a range replaced by entries with rising keys
 --     size-unique, size-le           a table has one number of entries, and no more than a table with more keys
 --     size-new, size-old             a new key is one more, an old one none
+--     listed-one, listed-same        a list is that of one table, and a table has one list
+--     made-listed, listed-made       rising entries make a table, and a table is made again from its list
 --     keeps-size, keeps-room         the count that a caller keeps is the number of entries, and there is room for it
 --     keeps-one, keeps-cong          memory keeps one table, and any that says the same of each key
 --     keeps-short                    no value in it is too long
 -- Assumes nothing.
 use mathlib.Core.Path.{_≡_, refl, sym, ap, _∙_}
-use mathlib.Core.Logic.{⊎-elim}
 use mathlib.Core.Bool.{true, false}
 use mathlib.Core.List.{List}
 use mathlib.Core.Option.{none, some, Option·some-injective}
@@ -23,8 +25,9 @@ use Rattle.keys.specs.Bound.{holds}
 use Rattle.limits.specs.Limits.{valueMax}
 use Rattle.records.specs.Table.{Value, Table, removed, within, replaced, Listed, Size}
 use Rattle.records.specs.Memory.{valueAt, Keeps}
-use Rattle.records.proofs.Tables.{dropped-true, dropped-false, only-true, only-false, find-place, listed-at, listed-cong}
+use Rattle.records.proofs.Tables.{dropped-true, dropped-false, only-true, only-false, listed-at, listed-cong}
 use Rattle.records.proofs.Stores.{storing-other, storing-at}
+pub use Rattle.records.proofs.Lists.{listed-one, listed-same, made-listed, listed-made}
 pub use Rattle.records.proofs.Tables.{put-same, put-other, size-unique, size-le, size-new, size-old}
 
 -- ---- tables
@@ -63,11 +66,7 @@ module _ (keys slots lens values : List ℕ) (n : ℕ) (T : Table) (K : Keeps ke
   keeps-room = K .shape .count
 
   pub keeps-one : (T′ : Table) → Keeps keys slots lens values n T′ → (k : ℕ) → T k ≡ T′ k
-  keeps-one T′ K′ k =
-      ⊎-elim
-      (λ w. ap T (sym (w .2)) ∙ K .listed .has (w .0) (w .1) ∙ sym (K′ .listed .has (w .0) (w .1)) ∙ ap T′ (w .2))
-      (λ w. K .listed .none-else k w ∙ sym (K′ .listed .none-else k w))
-      (find-place n (λ i. getD keys i 0) k)
+  keeps-one T′ K′ = listed-one n (λ i. getD keys i 0) (valueAt slots lens values) T T′ (K .listed) (K′ .listed)
 
   pub keeps-cong : (T′ : Table) → ((k : ℕ) → T k ≡ T′ k) → Keeps keys slots lens values n T′
   keeps-cong T′ e = record {

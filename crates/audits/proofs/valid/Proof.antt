@@ -1,5 +1,5 @@
--- `audits::valid` meets its contract. Each test that fails contradicts a field of `Keeps`. If none fails, the table is the one that looks a
--- key up in the list of entries.
+-- `audits::valid` meets its contract. Each test that fails contradicts a field of `Keeps`. If none fails, the table is the one that the
+-- entries make.
 -- Assumes nothing.
 use mathlib.Core.Bool.{false≢true}
 use mathlib.Core.List.{List}
@@ -9,7 +9,8 @@ use lib.ListN.{length, getD}
 use borrow.Author.Needs.{needs}
 use borrow.Author.Tests.{not-true, not-false}
 use Rattle.records.specs.Memory.{valueAt}
-use Rattle.audits.proofs.Lookup.{lookup, lookup-listed}
+use Rattle.records.specs.Table.{empty, storing}
+use Rattle.records.proofs.Laws.{made-listed}
 use Rattle.audits.proofs.valid.Statement.{statement}
 use Rattle.audits.proofs.valid.Tie as tie
 
@@ -59,12 +60,12 @@ returns-4 c =
     let val : ℕ → List ℕ = valueAt (a .slots .now) (a .lens .now) (a .values .now) in
     record {
       yes = λ e. (
-        lookup (a .n) key val,
+        storing (a .n) key val empty,
         record {
           shape = shape;
           slotted = p .ensures .yes (not-false (p .result) (c .before .if3 .left));
           short = s .ensures .yes e;
-          listed = lookup-listed key val (a .n) rising;
+          listed = made-listed (a .n) key val rising;
         },
       );
       no = λ e T k.

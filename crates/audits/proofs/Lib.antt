@@ -1,2 +1,0 @@
--- `Lookup` has the table that entries make.
-pub mod Lookup
