@@ -8,7 +8,8 @@ use Rattle.keys.specs.declared.Bound.{Bound}
 use Rattle.limits.specs.Limits.{valueMax}
 use Rattle.columns.specs.Column.{Rising}
 use Rattle.records.specs.Table.{Value, Table, replaced, Size}
-use Rattle.records.specs.Memory.{part, Keeps}
+use Rattle.memory.specs.Bytes.{part}
+use Rattle.records.specs.Memory.{Keeps}
 use Rattle.entries.specs.declared.Replaced.{Replaced}
 use Rattle.entries.specs.declared.Replaced.the-variants.{Entries, Full, TooLong, Malformed}
 

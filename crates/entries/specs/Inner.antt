@@ -12,7 +12,8 @@ use Rattle.keys.specs.Bound.{holds}
 use Rattle.limits.specs.Limits.{valueMax}
 use Rattle.columns.specs.Column.{Rising}
 use Rattle.records.specs.Table.{Table, put, storing, Size}
-use Rattle.records.specs.Memory.{part, Keeps}
+use Rattle.memory.specs.Bytes.{part}
+use Rattle.records.specs.Memory.{Keeps}
 use Rattle.entries.specs.Answers.{Entered}
 use Rattle.entries.specs.declared.Look.{Look}
 use Rattle.entries.specs.declared.Look.the-variants.{Fine, Long, Bad}
@@ -24,10 +25,6 @@ CheckCases Bad ks ats ls bytes m = Entered ks ats ls bytes m → ⊥
 
 pub record Checked (ks ats ls bytes : List ℕ) (m : ℕ) (r : Look) : Type 0 where
   pub is : CheckCases r ks ats ls bytes m
-
-pub record Inside (ats ls : List ℕ) (m size : ℕ) (r : Bool) : Type 0 where
-  pub yes : r ≡ true → (m ≤ length ats) × (m ≤ length ls) × ((i : ℕ) → i < m → getD ats i 0 + getD ls i 0 ≤ size)
-  pub no : r ≡ false → m ≤ length ats → m ≤ length ls → ((i : ℕ) → i < m → getD ats i 0 + getD ls i 0 ≤ size) → ⊥
 
 pub record Short (ls : List ℕ) (m : ℕ) (r : Bool) : Type 0 where
   pub yes : r ≡ true → (i : ℕ) → i < m → getD ls i 0 ≤ valueMax

@@ -7,7 +7,7 @@ use records::Stored;
 ghost use Prim.Native.Nat.{_≤_};
 ghost use lib.ListN.{length};
 ghost use Rattle.entries.specs.Answers.{Left, AfterReplace};
-ghost use Rattle.entries.specs.Inner.{CheckCases, Checked, Inside, Short, IsNew, AfterOne, AfterStores};
+ghost use Rattle.entries.specs.Inner.{CheckCases, Checked, Short, IsNew, AfterOne, AfterStores};
 
 // What a replacement answers: how many entries there are now, or a refusal, and then nothing has
 // changed.
@@ -122,38 +122,13 @@ fn check(ks: &[u64], ats: &[u64], ls: &[u64], m: usize, bytes: &[u8]) -> Look
     if !columns::rises(ks, m) {
         return Look::Bad;
     }
-    if !inside(ats, ls, m, bytes.len()) {
+    if !strings::inside(ats, ls, m, bytes.len()) {
         return Look::Bad;
     }
     if !short(ls, m) {
         return Look::Long;
     }
     Look::Fine
-}
-
-// Does each of the m parts lie within that many bytes?
-fn inside(ats: &[u64], ls: &[u64], m: usize, size: usize) -> bool
-    ensures { λ r. ⌜ Inside (now (ats .entry)) (now (ls .entry)) m size r ⌝ }
-{
-    if ats.len() < m {
-        return false;
-    }
-    if ls.len() < m {
-        return false;
-    }
-    let mut i: usize = 0;
-    while i < m {
-        let at = ats[i] as usize;
-        let len = ls[i] as usize;
-        if size < at {
-            return false;
-        }
-        if size - at < len {
-            return false;
-        }
-        i += 1;
-    }
-    true
 }
 
 // Is none of the m values too long?

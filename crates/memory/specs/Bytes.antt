@@ -6,6 +6,10 @@ use mathlib.Core.List.{List, _++_}
 use Prim.Native.Nat.{ℕ, _+_, _≤_, _<_}
 use lib.ListN.{length, take, drop}
 
+-- the part of the bytes that starts at `at` and is len long
+abbrev pub part : List ℕ → ℕ → ℕ → List ℕ
+part bytes at len = take len (drop at bytes)
+
 -- d with s written over it, from place `at` on
 abbrev pub placed : List ℕ → ℕ → List ℕ → List ℕ
 placed d at s = take at d ++ s ++ drop (at + length s) d

@@ -6,7 +6,8 @@ use Prim.Native.Nat.{ℕ, min, _+_, _-_, _≤_, _<_}
 use lib.ListN.{length, getD}
 use Rattle.keys.specs.declared.Bound.{Bound}
 use Rattle.records.specs.Table.{Table, removed, within, Listed, Size}
-use Rattle.records.specs.Memory.{part, Keeps}
+use Rattle.memory.specs.Bytes.{part}
+use Rattle.records.specs.Memory.{Keeps}
 use Rattle.ranges.specs.declared.Picked.{Picked}
 use Rattle.ranges.specs.declared.Picked.the-variants.{Count, NoRoom}
 

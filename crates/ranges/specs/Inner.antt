@@ -6,7 +6,8 @@ use mathlib.Core.Option.{some}
 use Prim.Native.Nat.{ℕ, _+_, _≤_, _<_}
 use lib.ListN.{length, getD}
 use Rattle.records.specs.Table.{Table}
-use Rattle.records.specs.Memory.{part, Keeps}
+use Rattle.memory.specs.Bytes.{part}
+use Rattle.records.specs.Memory.{Keeps}
 
 -- the m entries from place i on, each by its key and the place and length of its value
 pub record Noted (keys slots lens values : List ℕ) (n i m : ℕ) (ks ats ls : List ℕ) : Type 0 where

@@ -47,12 +47,12 @@ pub fn pick(
     if keys.len() < n {
         return Picked::Count(0);
     }
-    let i = columns::before(keys, n, lo);
-    let j = columns::before(keys, n, hi);
-    if j <= i {
+    let first = columns::before(keys, n, lo);
+    let last = columns::before(keys, n, hi);
+    if last <= first {
         return Picked::Count(0);
     }
-    let m = j - i;
+    let m = last - first;
     if to_keys.len() < m {
         return Picked::NoRoom;
     }
@@ -62,7 +62,18 @@ pub fn pick(
     if to_lens.len() < m {
         return Picked::NoRoom;
     }
-    note(keys, slots, lens, values, n, i, m, to_keys, to_ats, to_lens);
+    note(
+        keys,
+        slots,
+        lens,
+        values,
+        n,
+        first,
+        m,
+        to_keys,
+        to_ats,
+        to_lens,
+    );
     Picked::Count(m)
 }
 

@@ -13,13 +13,13 @@ use lib.ListN.{length, getD, set, take, drop, length-set}
 use lib.Seq.{getD-set-same, getD-set-other}
 use borrow.Author.Tests.{eq-eqb, ne-eqb, lt-ltb, le-ltb}
 use Rattle.limits.specs.Limits.{valueMax}
-use Rattle.memory.specs.Bytes.{placed}
 use Rattle.columns.specs.Column.{inserted, without, Splits}
 use Rattle.columns.proofs.Cases.{lt-or-ge, eq-or-ne}
 use Rattle.columns.proofs.Columns.{length-inserted, inserted-before, inserted-at, inserted-after, inserted-past, length-without, cut-before, cut-after}
 use Rattle.memory.proofs.Parts.{length-placed, placed-in, placed-before, placed-after}
+use Rattle.memory.specs.Bytes.{placed, part}
 use Rattle.records.specs.Table.{Value, Table, put, dropped, Listed}
-use Rattle.records.specs.Memory.{part, inSlot, valueAt, Shape, Slots, Keeps}
+use Rattle.records.specs.Memory.{inSlot, valueAt, Shape, Slots, Keeps}
 use Rattle.records.specs.Inner.{Room}
 use Rattle.records.proofs.Tables.{insert-listed, overwrite-listed, span-listed}
 

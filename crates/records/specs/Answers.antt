@@ -10,7 +10,8 @@ use lib.ListN.{length}
 use Rattle.keys.specs.declared.Bound.{Bound}
 use Rattle.limits.specs.Limits.{valueMax}
 use Rattle.records.specs.Table.{Value, Table, empty, put, removed}
-use Rattle.records.specs.Memory.{part, Shape, Keeps}
+use Rattle.memory.specs.Bytes.{part}
+use Rattle.records.specs.Memory.{Shape, Keeps}
 use Rattle.records.specs.declared.Found.{Found}
 use Rattle.records.specs.declared.Found.the-variants.{At, Nothing}
 use Rattle.records.specs.declared.Stored.{Stored}

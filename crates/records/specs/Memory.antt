@@ -5,13 +5,10 @@
 use mathlib.Core.Path.{_≡_}
 use mathlib.Core.List.{List}
 use Prim.Native.Nat.{ℕ, _*_, _≤_, _<_}
-use lib.ListN.{length, getD, take, drop}
+use lib.ListN.{length, getD}
 use Rattle.limits.specs.Limits.{valueMax}
+use Rattle.memory.specs.Bytes.{part}
 use Rattle.records.specs.Table.{Value, Table, Listed}
-
--- the part of the bytes that starts at `at` and is len long
-abbrev pub part : List ℕ → ℕ → ℕ → Value
-part bytes at len = take len (drop at bytes)
 
 -- the value in slot s
 abbrev pub inSlot : List ℕ → List ℕ → ℕ → Value

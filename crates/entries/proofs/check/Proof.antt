@@ -19,7 +19,10 @@ inside-requires c κs = search needs
 returns-2 : tie.Need-returns-2
 returns-2 c =
     let r = c .before .inside in
-    record { is = λ h. r .ensures .no (not-true (r .result) (c .if2 .taken)) (h .fits-ats) (h .fits-lens) (h .inside) }
+    record {
+      is = λ h. r .ensures .no (not-true (r .result) (c .if2 .taken))
+          (record { fits-ats = h .fits-ats; fits-lens = h .fits-lens; within = h .inside });
+    }
 
 short-requires : tie.Need-short-requires
 short-requires c κs = search needs
@@ -38,7 +41,7 @@ returns-4 c =
     let in-bytes = i .ensures .yes (not-false (i .result) (c .before .before .if2 .left)) in
     record {
       is = (
-        record { fits-keys = up .0; fits-ats = in-bytes .0; fits-lens = in-bytes .1; rising = up .1; inside = in-bytes .2 },
+        record { fits-keys = up .0; fits-ats = in-bytes .fits-ats; fits-lens = in-bytes .fits-lens; rising = up .1; inside = in-bytes .within },
         s .ensures .yes (not-false (s .result) (c .if3 .left)),
       );
     }

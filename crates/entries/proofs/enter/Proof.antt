@@ -7,7 +7,7 @@ use native.Mathlib.Omega.{arith}
 use borrow.Author.Needs.{needs}
 use lib.ListN.{length, getD}
 use Rattle.records.specs.Table.{removed}
-use Rattle.records.specs.Memory.{part}
+use Rattle.memory.specs.Bytes.{part}
 use Rattle.entries.proofs.enter.Statement.{statement}
 use Rattle.entries.proofs.enter.Tie as tie
 

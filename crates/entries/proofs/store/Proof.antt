@@ -9,7 +9,8 @@ use borrow.Author.Needs.{needs}
 use lib.ListN.{length, getD}
 use Rattle.limits.specs.Limits.{valueMax}
 use Rattle.records.specs.Table.{Table, storing, Size}
-use Rattle.records.specs.Memory.{part, valueAt, Keeps}
+use Rattle.memory.specs.Bytes.{part}
+use Rattle.records.specs.Memory.{valueAt, Keeps}
 use Rattle.entries.specs.Answers.{Entered}
 use Rattle.records.proofs.Stores.{room-for}
 use Rattle.entries.proofs.store.Statement.{statement}

@@ -8,7 +8,8 @@ use native.Mathlib.Omega.{arith}
 use borrow.Author.Needs.{needs}
 use lib.ListN.{length, take, drop, length-take}
 use Rattle.records.specs.Table.{Table, put}
-use Rattle.records.specs.Memory.{part, Keeps}
+use Rattle.memory.specs.Bytes.{part}
+use Rattle.records.specs.Memory.{Keeps}
 use Rattle.records.specs.Answers.{AfterSet}
 use Rattle.records.specs.declared.Stored.{Stored}
 use Rattle.entries.proofs.store_one.Statement.{statement}

@@ -10,7 +10,8 @@ use lib.ListN.{length, getD}
 use Rattle.keys.specs.declared.Bound.{Bound}
 use Rattle.keys.specs.Bound.{holds}
 use Rattle.records.specs.Table.{Table, within, Listed, Size}
-use Rattle.records.specs.Memory.{part, valueAt, Keeps}
+use Rattle.memory.specs.Bytes.{part}
+use Rattle.records.specs.Memory.{valueAt, Keeps}
 use Rattle.columns.specs.Column.{Before}
 use Rattle.ranges.specs.Inner.{Noted}
 use Rattle.records.proofs.Tables.{window-listed, listed-cong}

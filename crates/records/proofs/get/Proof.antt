@@ -8,7 +8,8 @@ use native.Mathlib.Omega.{arith}
 use borrow.Author.Needs.{needs}
 use lib.ListN.{length, getD}
 use Rattle.records.specs.Table.{Table}
-use Rattle.records.specs.Memory.{part, Keeps}
+use Rattle.memory.specs.Bytes.{part}
+use Rattle.records.specs.Memory.{Keeps}
 use Rattle.records.specs.Answers.{GetCases}
 use Rattle.records.specs.Inner.{PlacedCases}
 use Rattle.records.specs.declared.Found.{Found}

@@ -1,24 +1,24 @@
--- `entries::inside` meets its contract. The loop's invariant: each part passed lies within the bytes. The measure is what is left.
+-- `strings::inside` meets its contract. The loop's invariant: each string passed lies within the bytes. The measure is what is left.
 -- Assumes nothing.
 use mathlib.Core.Bool.{true≢false, false≢true}
 use Prim.Native.Nat.{ℕ, _+_, _-_, _≤_, _<_}
 use native.Mathlib.Omega.{arith}
 use lib.ListN.{getD}
 use borrow.Author.Count.{below-none, below-more}
-use Rattle.entries.proofs.inside.Statement.{statement}
-use Rattle.entries.proofs.inside.Tie as tie
+use Rattle.strings.proofs.inside.Statement.{statement}
+use Rattle.strings.proofs.inside.Tie as tie
 
 abbrev Inv-loop : tie.InvT-loop
-Inv-loop ats ls m size i₀ i = (i ≤ m) × ((k : ℕ) → k < i → getD ats k 0 + getD ls k 0 ≤ size)
+Inv-loop ats lens m size i₀ i = (i ≤ m) × ((k : ℕ) → k < i → getD ats k 0 + getD lens k 0 ≤ size)
 
 abbrev μ-loop : tie.MeasureT-loop
-μ-loop ats ls m size i₀ i = m - i
+μ-loop ats lens m size i₀ i = m - i
 
 returns : tie.Need-returns Inv-loop μ-loop
-returns c = record { yes = λ e. absurd (false≢true e); no = λ e p q r. omega (arith, c .if1 .taken) }
+returns c = record { yes = λ e. absurd (false≢true e); no = λ e w. omega (arith, c .if1 .taken, w .fits-ats) }
 
 returns-2 : tie.Need-returns-2 Inv-loop μ-loop
-returns-2 c = record { yes = λ e. absurd (false≢true e); no = λ e p q r. omega (arith, c .if2 .taken) }
+returns-2 c = record { yes = λ e. absurd (false≢true e); no = λ e w. omega (arith, c .if2 .taken, w .fits-lens) }
 
 loop-holds : tie.Need-loop-holds Inv-loop μ-loop
 loop-holds c = (omega arith, below-none _)
@@ -40,7 +40,7 @@ returns-3 c =
     let l = c .before .before .before .before .loop in
     record {
       yes = λ e. absurd (false≢true e);
-      no = λ e p q r. omega (arith, c .if3 .taken, r (l .i) (c .before .before .before .loop-test .taken));
+      no = λ e w. omega (arith, c .if3 .taken, w .within (l .i) (c .before .before .before .loop-test .taken));
     }
 
 returns-4 : tie.Need-returns-4 Inv-loop μ-loop
@@ -48,7 +48,7 @@ returns-4 c =
     let l = c .before .before .before .before .before .loop in
     record {
       yes = λ e. absurd (false≢true e);
-      no = λ e p q r. omega (arith, c .if4 .taken, r (l .i) (c .before .before .before .before .loop-test .taken));
+      no = λ e w. omega (arith, c .if4 .taken, w .within (l .i) (c .before .before .before .before .loop-test .taken));
     }
 
 add-i : tie.Need-add-i Inv-loop μ-loop
@@ -61,14 +61,14 @@ loop-again : tie.Need-loop-again Inv-loop μ-loop
 loop-again c =
     let l = c .before .before .before .before .before .loop in
     let a = c .before .before .before .before .before .before .before .before .args in
-    let h : getD (a .ats .now) (l .i) 0 + getD (a .ls .now) (l .i) 0 ≤ a .size = omega (arith, c .if4 .left, c .before .if3 .left) in
+    let h : getD (a .ats .now) (l .i) 0 + getD (a .lens .now) (l .i) 0 ≤ a .size = omega (arith, c .if4 .left, c .before .if3 .left) in
     (omega arith, below-more _ (l .i) (l .inv .1) h)
 
 returns-5 : tie.Need-returns-5 Inv-loop μ-loop
 returns-5 c =
     let l = c .before .loop in
     record {
-      yes = λ e. (omega arith, omega arith, λ k p. l .inv .1 k (omega arith));
+      yes = λ e. record { fits-ats = omega arith; fits-lens = omega arith; within = λ k p. l .inv .1 k (omega arith) };
       no = λ e. absurd (true≢false e);
     }
 
