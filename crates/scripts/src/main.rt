@@ -1,0 +1,19 @@
+// Random scripts on the map and on the table, each step held to a simple model: one owner a key,
+// and one length and seed a key from which the value's bytes follow. The scripts follow a fixed
+// rule, so every run does the same. The file `stdout` has the counts: that nothing differed, and
+// that each refusal did happen.
+mod draw;
+mod map;
+mod show;
+mod table;
+
+fn main() {
+    show::map(b"map, room for 4000: ", map::play(4000, 0, 8000, 4));
+    show::map(b"map, room for 40: ", map::play(40, 10000, 14000, 600));
+    show::map(b"map, alternating: ", map::play(4000, 0, 2003, 0));
+    show::table(b"table: ", table::play(0, 12000));
+    show::table(
+        b"table, filled: ",
+        table::play(table::FILL, table::FILL + 3005),
+    );
+}
