@@ -10,7 +10,7 @@ ghost use Rattle.audits.specs.Inner.{Permuted, Fresh, AllShort};
 pub fn valid(keys: &[u64], slots: &[u64], lens: &[u64], values: &[u8], n: usize) -> bool
     ensures { λ r. ⌜ Valid (now (keys .entry)) (now (slots .entry)) (now (lens .entry)) (now (values .entry)) n r ⌝ }
 {
-    if !records::fits(keys, slots, lens, values, n) {
+    if !records::fits(keys.len(), slots.len(), lens.len(), values.len(), n) {
         return false;
     }
     if !columns::rises(keys, n) {

@@ -3,7 +3,7 @@
 use columns::Spot;
 use keys::Bound;
 use limits::VALUE_MAX;
-use records::Stored;
+use stores::Stored;
 ghost use Prim.Native.Nat.{_≤_};
 ghost use lib.ListN.{length};
 ghost use Rattle.entries.specs.Answers.{Left, AfterReplace};
@@ -199,7 +199,7 @@ fn store_one(
         return n;
     }
     let end = at + len;
-    let answer = records::set(keys, slots, lens, values, n, key, &bytes[at..end]);
+    let answer = stores::set(keys, slots, lens, values, n, key, &bytes[at..end]);
     match answer {
         Stored::Entries(now) => now,
         Stored::Full => n,

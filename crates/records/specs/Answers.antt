@@ -5,27 +5,24 @@ use mathlib.Core.Path.{_≡_}
 use mathlib.Core.Bool.{Bool, true, false}
 use mathlib.Core.List.{List}
 use mathlib.Core.Option.{none, some}
-use Prim.Native.Nat.{ℕ, _+_, _≤_, _<_}
+use Prim.Native.Nat.{ℕ, _+_, _≤_}
 use lib.ListN.{length}
 use Rattle.keys.specs.declared.Bound.{Bound}
-use Rattle.limits.specs.Limits.{valueMax}
-use Rattle.records.specs.Table.{Value, Table, empty, put, removed}
+use Rattle.records.specs.Table.{Table, empty, put, removed}
 use Rattle.memory.specs.Bytes.{part}
 use Rattle.records.specs.Memory.{Shape, Keeps}
 use Rattle.records.specs.declared.Found.{Found}
 use Rattle.records.specs.declared.Found.the-variants.{At, Nothing}
-use Rattle.records.specs.declared.Stored.{Stored}
-use Rattle.records.specs.declared.Stored.the-variants.{Entries, Full, TooLong}
 
--- r says whether the slices fit together
-pub record Fits (keys slots lens values : List ℕ) (n : ℕ) (r : Bool) : Type 0 where
+-- r says whether slices of these lengths fit together
+pub record Fits (keys slots lens values n : ℕ) (r : Bool) : Type 0 where
   pub yes : r ≡ true → Shape keys slots lens values n
   pub no : r ≡ false → Shape keys slots lens values n → ⊥
 
 -- the table is empty, or what is lent does not fit together and nothing has changed
 pub record AfterStart (keys slots lens values : List ℕ) (r : Bool) (slots′ : List ℕ) : Type 0 where
   pub ready : r ≡ true → Keeps keys slots′ lens values 0 empty
-  pub unfit : r ≡ false → (slots′ ≡ slots) × (Shape keys slots lens values 0 → ⊥)
+  pub unfit : r ≡ false → (slots′ ≡ slots) × (Shape (length keys) (length slots) (length lens) (length values) 0 → ⊥)
 
 -- the key's value stands in `values`, from `at` on, or the key has none. A part that is named lies within `values` in any case
 abbrev pub GetCases : Found → (keys slots lens values : List ℕ) → (n key : ℕ) → Type 0
@@ -35,20 +32,6 @@ GetCases Nothing keys slots lens values n key = (T : Table) → Keeps keys slots
 
 pub record Got (keys slots lens values : List ℕ) (n key : ℕ) (r : Found) : Type 0 where
   pub is : GetCases r keys slots lens values n key
-
--- the entry is set, or the value is too long, or the table is full and the key is new: then nothing has changed
-abbrev pub SetCases : Stored → (keys slots lens values : List ℕ) → (n key : ℕ) → Value → (keys′ slots′ lens′ values′ : List ℕ) → Type 0
-SetCases (Entries m) keys slots lens values n key v keys′ slots′ lens′ values′ =
-    (T : Table) → Keeps keys slots lens values n T → Keeps keys′ slots′ lens′ values′ m (put key (some v) T)
-SetCases Full keys slots lens values n key v keys′ slots′ lens′ values′ =
-    (keys′ ≡ keys) × (slots′ ≡ slots) × (lens′ ≡ lens) × (values′ ≡ values)
-    × ((T : Table) → Keeps keys slots lens values n T → (T key ≡ none) × (n ≡ length slots))
-SetCases TooLong keys slots lens values n key v keys′ slots′ lens′ values′ =
-    (keys′ ≡ keys) × (slots′ ≡ slots) × (lens′ ≡ lens) × (values′ ≡ values) × (valueMax < length v)
-
-pub record AfterSet (keys slots lens values : List ℕ) (n key : ℕ) (v : Value) (r : Stored) (keys′ slots′ lens′ values′ : List ℕ)
-    : Type 0 where
-  pub is : SetCases r keys slots lens values n key v keys′ slots′ lens′ values′
 
 -- the key has no entry, and r entries are left
 pub record AfterDelete (keys slots : List ℕ) (n key r : ℕ) (keys′ slots′ : List ℕ) : Type 0 where

@@ -18,12 +18,12 @@ inSlot lens values s = part values (s * valueMax) (getD lens s 0)
 abbrev pub valueAt : List ℕ → List ℕ → List ℕ → ℕ → Value
 valueAt slots lens values i = inSlot lens values (getD slots i 0)
 
--- the four slices fit together: there are as many places as slots, each with its key, its length and its bytes
-pub record Shape (keys slots lens values : List ℕ) (n : ℕ) : Type 0 where
-  pub count : n ≤ length slots
-  pub fits-keys : length slots ≤ length keys
-  pub fits-lens : length slots ≤ length lens
-  pub fits-values : length slots * valueMax ≤ length values
+-- slices of these lengths fit together, with n entries in use: there are as many places as slots, each with its key, its length and its bytes
+pub record Shape (keys slots lens values n : ℕ) : Type 0 where
+  pub count : n ≤ slots
+  pub fits-keys : slots ≤ keys
+  pub fits-lens : slots ≤ lens
+  pub fits-values : slots * valueMax ≤ values
 
 -- the slots are a permutation of the places
 pub record Slots (slots : List ℕ) : Type 0 where
@@ -32,7 +32,7 @@ pub record Slots (slots : List ℕ) : Type 0 where
 
 -- Memory keeps the table T in n entries
 pub record Keeps (keys slots lens values : List ℕ) (n : ℕ) (T : Table) : Type 0 where
-  pub shape : Shape keys slots lens values n
+  pub shape : Shape (length keys) (length slots) (length lens) (length values) n
   pub slotted : Slots slots
   pub short : (i : ℕ) → i < n → getD lens (getD slots i 0) 0 ≤ valueMax
   pub listed : Listed n (λ i. getD keys i 0) (valueAt slots lens values) T

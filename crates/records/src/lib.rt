@@ -14,10 +14,8 @@ use keys::Bound;
 use limits::VALUE_MAX;
 ghost use Prim.Native.Nat.{_≤_};
 ghost use lib.ListN.{length};
-ghost use Rattle.limits.specs.Limits.{valueMax};
-ghost use Rattle.records.specs.Answers.{AfterStart, Fits, Got, AfterSet, AfterDelete, AfterRemove};
-ghost use Rattle.records.specs.Memory.{Shape};
-ghost use Rattle.records.specs.Inner.{AfterAdd, AfterRenew, AfterSpan};
+ghost use Rattle.records.specs.Answers.{AfterStart, Fits, Got, AfterDelete, AfterRemove};
+ghost use Rattle.records.specs.Inner.{AfterSpan};
 
 // Where a key's value stands in `values`, as its start and its length, or that the key has none.
 pub enum Found {
@@ -25,26 +23,27 @@ pub enum Found {
     Nothing,
 }
 
-// What setting an entry answers: how many entries there are now, or a refusal, and then nothing has
-// changed.
-pub enum Stored {
-    Entries(usize),
-    Full,
-    TooLong,
-}
-
-// Do the slices fit together, with n entries in use?
-pub fn fits(keys: &[u64], slots: &[u64], lens: &[u64], values: &[u8], n: usize) -> bool
-    ensures { λ r. ⌜ Fits (now (keys .entry)) (now (slots .entry)) (now (lens .entry)) (now (values .entry)) n r ⌝ }
+// Do slices of these lengths fit together, with n entries in use?
+pub fn fits(keys: usize, slots: usize, lens: usize, values: usize, n: usize) -> bool
+    ensures { λ r. ⌜ Fits keys slots lens values n r ⌝ }
 {
-    place::shaped(keys.len(), slots.len(), lens.len(), values.len(), n)
+    if slots < n {
+        return false;
+    }
+    if keys < slots {
+        return false;
+    }
+    if lens < slots {
+        return false;
+    }
+    slots <= values / VALUE_MAX
 }
 
 // An empty table with as many places as there are slots. Answers whether what is lent fits together.
 pub fn start(keys: &[u64], slots: &mut [u64], lens: &[u64], values: &[u8]) -> bool
     ensures { λ r. ⌜ AfterStart (now (keys .entry)) (now (slots .entry)) (now (lens .entry)) (now (values .entry)) r (now (slots .exit)) ⌝ }
 {
-    if !place::shaped(keys.len(), slots.len(), lens.len(), values.len(), 0) {
+    if !fits(keys.len(), slots.len(), lens.len(), values.len(), 0) {
         return false;
     }
     slots::number(slots);
@@ -60,78 +59,6 @@ pub fn get(keys: &[u64], slots: &[u64], lens: &[u64], values: &[u8], n: usize, k
         Spot::Old(i) => place::of(slots, lens, values, i),
         Spot::New(_) => Found::Nothing,
     }
-}
-
-// Sets the key's value. A new key of a full table and a long value are refused.
-pub fn set(
-    keys: &mut [u64],
-    slots: &mut [u64],
-    lens: &mut [u64],
-    values: &mut [u8],
-    n: usize,
-    key: u64,
-    value: &[u8],
-) -> Stored
-    ensures { λ r. ⌜ AfterSet (now (keys .entry)) (now (slots .entry)) (now (lens .entry)) (now (values .entry)) n key (now (value .entry)) r
-        (now (keys .exit)) (now (slots .exit)) (now (lens .exit)) (now (values .exit)) ⌝ }
-{
-    if VALUE_MAX < value.len() {
-        return Stored::TooLong;
-    }
-    if !place::shaped(keys.len(), slots.len(), lens.len(), values.len(), n) {
-        return Stored::Full;
-    }
-    let spot = columns::seek(keys, n, key);
-    match spot {
-        Spot::Old(i) => renew(slots, lens, values, n, i, value),
-        Spot::New(p) => add(keys, slots, lens, values, n, p, key, value),
-    }
-}
-
-// The entry at place i gets another value.
-fn renew(
-    slots: &[u64],
-    lens: &mut [u64],
-    values: &mut [u8],
-    n: usize,
-    i: usize,
-    value: &[u8],
-) -> Stored
-    requires { ⌜ length (now value) ≤ valueMax ⌝ }
-    ensures { λ r. ⌜ AfterRenew (now (slots .entry)) (now (lens .entry)) (now (values .entry)) n i (now (value .entry)) r
-        (now (lens .exit)) (now (values .exit)) ⌝ }
-{
-    if place::write(slots, lens, values, i, value) {
-        return Stored::Entries(n);
-    }
-    Stored::Full
-}
-
-// A new key before place p: its value goes into the first free slot, and the slot's number to place p.
-fn add(
-    keys: &mut [u64],
-    slots: &mut [u64],
-    lens: &mut [u64],
-    values: &mut [u8],
-    n: usize,
-    p: usize,
-    key: u64,
-    value: &[u8],
-) -> Stored
-    requires { ⌜ Shape (now keys) (now slots) (now lens) (now values) n × (p ≤ n) × (length (now value) ≤ valueMax) ⌝ }
-    ensures { λ r. ⌜ AfterAdd (now (keys .entry)) (now (slots .entry)) (now (lens .entry)) (now (values .entry)) n p key (now (value .entry)) r
-        (now (keys .exit)) (now (slots .exit)) (now (lens .exit)) (now (values .exit)) ⌝ }
-{
-    if n == slots.len() {
-        return Stored::Full;
-    }
-    if !place::write(slots, lens, values, n, value) {
-        return Stored::Full;
-    }
-    let s = slots[n];
-    columns::insert(keys, n, p, key);
-    columns::insert(slots, n, p, s);
-    Stored::Entries(n + 1)
 }
 
 // Takes the key's entry out, if it has one, and answers how many entries are left.

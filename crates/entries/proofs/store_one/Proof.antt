@@ -10,8 +10,8 @@ use lib.ListN.{length, take, drop, length-take}
 use Rattle.records.specs.Table.{Table, put}
 use Rattle.memory.specs.Bytes.{part}
 use Rattle.records.specs.Memory.{Keeps}
-use Rattle.records.specs.Answers.{AfterSet}
-use Rattle.records.specs.declared.Stored.{Stored}
+use Rattle.stores.specs.Answers.{AfterSet}
+use Rattle.stores.specs.declared.Stored.{Stored}
 use Rattle.entries.proofs.store_one.Statement.{statement}
 use Rattle.entries.proofs.store_one.Tie as tie
 

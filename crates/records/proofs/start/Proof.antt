@@ -8,14 +8,14 @@ use borrow.Author.Tests.{not-true, not-false}
 use Rattle.records.proofs.start.Statement.{statement}
 use Rattle.records.proofs.start.Tie as tie
 
-shaped-requires : tie.Need-shaped-requires
-shaped-requires c κs = search needs
+fits-requires : tie.Need-fits-requires
+fits-requires c κs = search needs
 
 returns : tie.Need-returns
 returns c =
     record {
       ready = λ e. absurd (false≢true e);
-      unfit = λ e. (refl, λ h. c .before .shaped .ensures .no (not-true _ (c .if1 .taken)) (h .count) (h .fits-keys) (h .fits-lens) (h .fits-values));
+      unfit = λ e. (refl, λ h. c .before .fits2 .ensures .no (not-true _ (c .if1 .taken)) h);
     }
 
 number-requires : tie.Need-number-requires
@@ -26,15 +26,15 @@ same-length c = search needs
 
 returns-2 : tie.Need-returns-2
 returns-2 c =
-    let s = c .before .before .before .before .before .shaped .ensures .yes (not-false _ (c .before .before .before .before .if1 .left)) in
+    let s = c .before .before .before .before .before .fits2 .ensures .yes (not-false _ (c .before .before .before .before .if1 .left)) in
     let n = c .before .before .number in
     record {
       ready = λ e. record {
         shape = record {
           count = omega arith;
-          fits-keys = omega (arith, s .1, n .kept .0);
-          fits-lens = omega (arith, s .2, n .kept .0);
-          fits-values = omega (arith, s .3, n .kept .0);
+          fits-keys = omega (arith, s .fits-keys, n .kept .0);
+          fits-lens = omega (arith, s .fits-lens, n .kept .0);
+          fits-values = omega (arith, s .fits-values, n .kept .0);
         };
         slotted = n .ensures;
         short = λ i q. absurd (omega arith);
@@ -44,4 +44,4 @@ returns-2 c =
     }
 
 pub start-spec : {M : Type 1} → statement M
-start-spec = tie.close (tie.spec shaped-requires returns number-requires same-length returns-2)
+start-spec = tie.close (tie.spec fits-requires returns number-requires same-length returns-2)
