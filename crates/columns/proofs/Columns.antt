@@ -1,6 +1,6 @@
 -- The laws of columns: what a turn of each loop does, and what stands at each place after an insertion and after a cut.
 -- Assumes nothing.
-use mathlib.Core.Path.{_≡_, refl, sym, ap, _∙_, subst}
+use mathlib.Core.Path.{_≡_, refl, sym, ap, _∙_}
 use mathlib.Core.Logic.{_⊎_, inl, inr, ⊎-elim}
 use mathlib.Core.List.{List, [], _∷_, _++_, append-assoc}
 use Prim.Native.Nat.{ℕ, zero, suc, _+_, _-_, _≤_, _<_}
@@ -9,8 +9,7 @@ use Rattle.columns.proofs.Cases.{lt-or-ge}
 use lib.ListN.{length, take, drop, getD, set, length-append, length-drop, List·getD-append}
 use lib.Seq.{slice, take-suc-set, take-set-lt, drop-set-lt, append-snoc, slice-cons, slice-empty, set-split, take-take, take-all, drop-length, length-take-le, length-slice, getD-append-add, getD-take, getD-drop, take-length}
 use lib.ListN.{take-append-drop}
-use Rattle.columns.specs.Column.{inserted, without, Rising, Splits, Sought}
-use Rattle.columns.specs.declared.Spot.{Spot}
+use Rattle.columns.specs.Column.{inserted, without, Rising, Splits}
 
 -- ---- insertion
 
@@ -171,7 +170,3 @@ rising-more c i p r h a b ab bi = ⊎-elim (λ w. r a b ab w) (λ w. last (let e
 
     last : b ≡ i → getD c a 0 < getD c b 0
     last e = rw e below
-
--- what `seek` answered, at the answer that was matched
-pub sought-as : {c : List ℕ} {n k : ℕ} {r s : Spot} → r ≡ s → Sought c n k r → Sought c n k s
-sought-as {c} {n} {k} e A = subst (λ (x : Spot). Sought c n k x) e A

@@ -7,11 +7,6 @@ use mathlib.Core.List.{List, _∷_, _++_}
 use Prim.Native.Nat.{ℕ, suc, _+_, _-_, _≤_, _<_}
 use lib.ListN.{length, take, drop, getD}
 use lib.Seq.{slice}
-use Rattle.keys.specs.declared.Bound.{Bound}
-use Rattle.keys.specs.declared.Bound.the-variants.{Key}
-use Rattle.keys.specs.Bound.{below}
-use Rattle.columns.specs.declared.Spot.{Spot}
-use Rattle.columns.specs.declared.Spot.the-variants.{Old, New}
 
 -- v put before the element at `at`: those from there on move up by one, over what stood at n
 abbrev pub inserted : List ℕ → ℕ → ℕ → ℕ → List ℕ
@@ -44,20 +39,6 @@ pub record Upto (c : List ℕ) (n k r : ℕ) : Type 0 where
   pub within : r ≤ n
   pub inside : r ≤ length c
   pub splits : n ≤ length c → Rising c n → Splits c n k r
-
--- r is how many of the first n lie below the bound, if they are there and rise
-pub record Before (c : List ℕ) (n : ℕ) (b : Bound) (r : ℕ) : Type 0 where
-  pub least : r ≤ n
-  pub low : n ≤ length c → Rising c n → (x : ℕ) → x < r → below (Key (getD c x 0)) b ≡ true
-  pub high : n ≤ length c → Rising c n → (x : ℕ) → r ≤ x → x < n → below (Key (getD c x 0)) b ≡ false
-
--- k stands at place i; or it stands nowhere, if the first n are there and rise, and belongs before place p
-abbrev pub SeekCases : Spot → List ℕ → (n k : ℕ) → Type 0
-SeekCases (Old i) c n k = (i < n) × (i < length c) × (getD c i 0 ≡ k)
-SeekCases (New p) c n k = (p ≤ n) × (n ≤ length c → Rising c n → Splits c n k p × ((x : ℕ) → x < n → getD c x 0 ≡ k → ⊥))
-
-pub record Sought (c : List ℕ) (n k : ℕ) (r : Spot) : Type 0 where
-  pub is : SeekCases r c n k
 
 -- r says whether the column has n elements and the first n rise strictly
 pub record Rises (c : List ℕ) (n : ℕ) (r : Bool) : Type 0 where

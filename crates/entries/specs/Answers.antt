@@ -22,11 +22,6 @@ pub record Entered (ks ats ls bytes : List ℕ) (m : ℕ) : Type 0 where
   pub rising : Rising ks m
   pub inside : (i : ℕ) → i < m → getD ats i 0 + getD ls i 0 ≤ length bytes
 
--- r is how many entries replacing the range by entries with these keys would leave, whatever their values
-pub record Left (keys : List ℕ) (n : ℕ) (lo hi : Bound) (ks : List ℕ) (m r : ℕ) : Type 0 where
-  pub is : (slots lens values : List ℕ) (T : Table) → Keeps keys slots lens values n T → m ≤ length ks → Rising ks m
-      → (val : ℕ → Value) → Size (replaced lo hi m (λ i. getD ks i 0) val T) r
-
 -- the range is replaced by the entries, or the list is not well formed, has a value that is too long, or does not fit: then nothing has changed
 abbrev pub ReplaceCases : Replaced → (keys slots lens values : List ℕ) → ℕ → Bound → Bound → (ks ats ls bytes : List ℕ) → ℕ
     → (keys′ slots′ lens′ values′ : List ℕ) → Type 0

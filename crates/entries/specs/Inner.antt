@@ -1,16 +1,12 @@
 -- What the private functions answer. A caller of the crate need not read this.
 -- Assumes nothing.
 use mathlib.Core.Path.{_≡_}
-use mathlib.Core.Logic.{_⊎_}
 use mathlib.Core.Bool.{Bool, true, false}
 use mathlib.Core.List.{List}
 use mathlib.Core.Option.{none, some}
 use Prim.Native.Nat.{ℕ, _+_, _≤_, _<_}
 use lib.ListN.{length, getD}
-use Rattle.keys.specs.declared.Bound.{Bound}
-use Rattle.keys.specs.Bound.{holds}
 use Rattle.limits.specs.Limits.{valueMax}
-use Rattle.columns.specs.Column.{Rising}
 use Rattle.records.specs.Table.{Table, put, storing, Size}
 use Rattle.memory.specs.Bytes.{part}
 use Rattle.records.specs.Memory.{Keeps}
@@ -29,10 +25,6 @@ pub record Checked (ks ats ls bytes : List ℕ) (m : ℕ) (r : Look) : Type 0 wh
 pub record Short (ls : List ℕ) (m : ℕ) (r : Bool) : Type 0 where
   pub yes : r ≡ true → (i : ℕ) → i < m → getD ls i 0 ≤ valueMax
   pub no : r ≡ false → (i : ℕ) × (i < m) × (valueMax < getD ls i 0)
-
-pub record IsNew (keys : List ℕ) (n : ℕ) (lo hi : Bound) (key : ℕ) (r : Bool) : Type 0 where
-  pub yes : r ≡ true → n ≤ length keys → Rising keys n → (holds lo hi key ≡ true) ⊎ ((x : ℕ) → x < n → getD keys x 0 ≡ key → ⊥)
-  pub no : r ≡ false → n ≤ length keys → Rising keys n → (holds lo hi key ≡ false) × ((x : ℕ) × (x < n) × (getD keys x 0 ≡ key))
 
 -- the entry is stored, if its value lies within the bytes, is short enough, and there is a place for a new key
 pub record AfterOne (keys slots lens values : List ℕ) (n key at len : ℕ) (bytes : List ℕ) (r : ℕ) (keys′ slots′ lens′ values′ : List ℕ)

@@ -1,13 +1,12 @@
 // Replacing a range by a list of entries. The list is handed in as columns of m places: keys, which
 // rise strictly, and where in the bytes each value stands.
-use columns::Spot;
 use keys::Bound;
 use limits::VALUE_MAX;
 use stores::Stored;
 ghost use Prim.Native.Nat.{_≤_};
 ghost use lib.ListN.{length};
-ghost use Rattle.entries.specs.Answers.{Left, AfterReplace};
-ghost use Rattle.entries.specs.Inner.{CheckCases, Checked, Short, IsNew, AfterOne, AfterStores};
+ghost use Rattle.entries.specs.Answers.{AfterReplace};
+ghost use Rattle.entries.specs.Inner.{CheckCases, Checked, Short, AfterOne, AfterStores};
 
 // What a replacement answers: how many entries there are now, or a refusal, and then nothing has
 // changed.
@@ -23,41 +22,6 @@ enum Look {
     Fine,
     Long,
     Bad,
-}
-
-// How many entries replacing the range by entries with these keys would leave.
-pub fn left(keys: &[u64], n: usize, lo: Bound, hi: Bound, ks: &[u64], m: usize) -> usize
-    ensures { λ r. ⌜ Left (now (keys .entry)) n lo hi (now (ks .entry)) m r ⌝ }
-{
-    if keys.len() < n {
-        return 0;
-    }
-    if ks.len() < m {
-        return 0;
-    }
-    let mut left = n - ranges::count(keys, n, lo, hi);
-    let mut t: usize = 0;
-    while t < m {
-        if is_new(keys, n, lo, hi, ks[t]) {
-            left += 1;
-        }
-        t += 1;
-    }
-    left
-}
-
-// Does the key get a place of its own, since it has no entry outside the range?
-fn is_new(keys: &[u64], n: usize, lo: Bound, hi: Bound, key: u64) -> bool
-    ensures { λ r. ⌜ IsNew (now (keys .entry)) n lo hi key r ⌝ }
-{
-    if keys::contains(lo, hi, key) {
-        return true;
-    }
-    let spot = columns::seek(keys, n, key);
-    match spot {
-        Spot::Old(_) => false,
-        Spot::New(_) => true,
-    }
 }
 
 // Replaces the range by the entries.
@@ -107,10 +71,10 @@ fn enter(
         (now (ks .entry)) (now (ats .entry)) (now (ls .entry)) (now (bytes .entry)) m r
         (now (keys .exit)) (now (slots .exit)) (now (lens .exit)) (now (values .exit)) ⌝ }
 {
-    if slots.len() < left(keys, n, lo, hi, ks, m) {
+    if slots.len() < counts::left(keys, n, lo, hi, ks, m) {
         return Replaced::Full;
     }
-    let rest = records::remove(keys, slots, n, lo, hi);
+    let rest = removals::remove(keys, slots, n, lo, hi);
     let now = store(keys, slots, lens, values, rest, ks, ats, ls, m, bytes);
     Replaced::Entries(now)
 }

@@ -1,21 +1,15 @@
--- What counting and picking out a range answer.
+-- What picking out a range answers.
 -- Assumes nothing.
 use mathlib.Core.Path.{_≡_}
 use mathlib.Core.List.{List}
-use Prim.Native.Nat.{ℕ, min, _+_, _-_, _≤_, _<_}
+use Prim.Native.Nat.{ℕ, min, _+_, _≤_, _<_}
 use lib.ListN.{length, getD}
 use Rattle.keys.specs.declared.Bound.{Bound}
-use Rattle.records.specs.Table.{Table, removed, within, Listed, Size}
+use Rattle.records.specs.Table.{Table, within, Listed, Size}
 use Rattle.memory.specs.Bytes.{part}
 use Rattle.records.specs.Memory.{Keeps}
 use Rattle.ranges.specs.declared.Picked.{Picked}
 use Rattle.ranges.specs.declared.Picked.the-variants.{Count, NoRoom}
-
--- the range has r entries, and the rest of the table n - r
-pub record Counted (keys : List ℕ) (n : ℕ) (lo hi : Bound) (r : ℕ) : Type 0 where
-  pub most : r ≤ n
-  pub rest : (slots lens values : List ℕ) (T : Table) → Keeps keys slots lens values n T → Size (removed lo hi T) (n - r)
-  pub is : (slots lens values : List ℕ) (T : Table) → Keeps keys slots lens values n T → Size (within lo hi T) r
 
 -- the range's entries in rising order, each by its key and the place and length of its value, or there are more than what is lent for them
 abbrev pub PickCases : Picked → (keys slots lens values : List ℕ) → ℕ → Bound → Bound → (ks ats ls ks′ ats′ ls′ : List ℕ) → Type 0

@@ -1,30 +1,15 @@
-// Ranges of keys in the table of `records`: counted, and picked out in rising order.
+// A range of keys picked out of the table of `records`, in rising order.
 use keys::Bound;
 use records::Found;
 ghost use Prim.Native.Nat.{_+_, _≤_};
 ghost use lib.ListN.{length};
-ghost use Rattle.ranges.specs.Answers.{Counted, AfterPick};
+ghost use Rattle.ranges.specs.Answers.{AfterPick};
 ghost use Rattle.ranges.specs.Inner.{Noted};
 
 // What picking out a range answers: how many entries it has, or that they do not fit what is lent.
 pub enum Picked {
     Count(usize),
     NoRoom,
-}
-
-// How many entries the range has.
-pub fn count(keys: &[u64], n: usize, lo: Bound, hi: Bound) -> usize
-    ensures { λ r. ⌜ Counted (now (keys .entry)) n lo hi r ⌝ }
-{
-    if keys.len() < n {
-        return 0;
-    }
-    let i = columns::before(keys, n, lo);
-    let j = columns::before(keys, n, hi);
-    if j <= i {
-        return 0;
-    }
-    j - i
 }
 
 // Writes down the range's entries in rising order: key, place and length of the value.
@@ -47,8 +32,8 @@ pub fn pick(
     if keys.len() < n {
         return Picked::Count(0);
     }
-    let first = columns::before(keys, n, lo);
-    let last = columns::before(keys, n, hi);
+    let first = searches::before(keys, n, lo);
+    let last = searches::before(keys, n, hi);
     if last <= first {
         return Picked::Count(0);
     }

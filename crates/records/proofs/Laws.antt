@@ -1,4 +1,5 @@
--- The laws of tables: all that a caller may go by, of this crate and of `stores`, `ranges`, `entries` and `audits`, which work on the same memory and know
+-- The laws of tables: all that a caller may go by, of this crate and of `stores`, `removals`, `counts`, `ranges`, `entries` and
+-- `audits`, which work on the same memory and know
 -- how it is laid out. They speak of tables, of `Size` and of `Keeps` as a whole, never of keys in
 -- rising order or of slots, so the table can be kept another way (found through hints, or by hashing) and no caller's proof changes.
 --     put-same, put-other            what one entry set changes, and what not

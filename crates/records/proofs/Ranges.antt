@@ -11,7 +11,8 @@ use lib.ListN.{length, getD}
 use Rattle.keys.specs.declared.Bound.{Bound}
 use Rattle.keys.specs.declared.Bound.the-variants.{Key}
 use Rattle.keys.specs.Bound.{below, holds}
-use Rattle.columns.specs.Column.{Rising, Before}
+use Rattle.columns.specs.Column.{Rising}
+use Rattle.searches.specs.Search.{Before}
 use Rattle.columns.proofs.Cases.{lt-or-ge}
 use Rattle.records.specs.Table.{Value, Table, dropped, only, removed, within, Listed, Size}
 use Rattle.records.specs.Memory.{valueAt, Keeps}

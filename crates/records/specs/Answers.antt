@@ -7,8 +7,7 @@ use mathlib.Core.List.{List}
 use mathlib.Core.Option.{none, some}
 use Prim.Native.Nat.{ℕ, _+_, _≤_}
 use lib.ListN.{length}
-use Rattle.keys.specs.declared.Bound.{Bound}
-use Rattle.records.specs.Table.{Table, empty, put, removed}
+use Rattle.records.specs.Table.{Table, empty}
 use Rattle.memory.specs.Bytes.{part}
 use Rattle.records.specs.Memory.{Shape, Keeps}
 use Rattle.records.specs.declared.Found.{Found}
@@ -32,11 +31,3 @@ GetCases Nothing keys slots lens values n key = (T : Table) → Keeps keys slots
 
 pub record Got (keys slots lens values : List ℕ) (n key : ℕ) (r : Found) : Type 0 where
   pub is : GetCases r keys slots lens values n key
-
--- the key has no entry, and r entries are left
-pub record AfterDelete (keys slots : List ℕ) (n key r : ℕ) (keys′ slots′ : List ℕ) : Type 0 where
-  pub is : (lens values : List ℕ) (T : Table) → Keeps keys slots lens values n T → Keeps keys′ slots′ lens values r (put key none T)
-
--- the range has no entry, and r entries are left
-pub record AfterRemove (keys slots : List ℕ) (n : ℕ) (lo hi : Bound) (r : ℕ) (keys′ slots′ : List ℕ) : Type 0 where
-  pub is : (lens values : List ℕ) (T : Table) → Keeps keys slots lens values n T → Keeps keys′ slots′ lens values r (removed lo hi T)

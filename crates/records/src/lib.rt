@@ -9,13 +9,9 @@
 mod place;
 mod slots;
 
-use columns::Spot;
-use keys::Bound;
 use limits::VALUE_MAX;
-ghost use Prim.Native.Nat.{_≤_};
-ghost use lib.ListN.{length};
-ghost use Rattle.records.specs.Answers.{AfterStart, Fits, Got, AfterDelete, AfterRemove};
-ghost use Rattle.records.specs.Inner.{AfterSpan};
+use searches::Spot;
+ghost use Rattle.records.specs.Answers.{AfterStart, Fits, Got};
 
 // Where a key's value stands in `values`, as its start and its length, or that the key has none.
 pub enum Found {
@@ -54,54 +50,9 @@ pub fn start(keys: &[u64], slots: &mut [u64], lens: &[u64], values: &[u8]) -> bo
 pub fn get(keys: &[u64], slots: &[u64], lens: &[u64], values: &[u8], n: usize, key: u64) -> Found
     ensures { λ r. ⌜ Got (now (keys .entry)) (now (slots .entry)) (now (lens .entry)) (now (values .entry)) n key r ⌝ }
 {
-    let spot = columns::seek(keys, n, key);
+    let spot = searches::seek(keys, n, key);
     match spot {
         Spot::Old(i) => place::of(slots, lens, values, i),
         Spot::New(_) => Found::Nothing,
     }
-}
-
-// Takes the key's entry out, if it has one, and answers how many entries are left.
-pub fn delete(keys: &mut [u64], slots: &mut [u64], n: usize, key: u64) -> usize
-    ensures { λ r. ⌜ AfterDelete (now (keys .entry)) (now (slots .entry)) n key r (now (keys .exit)) (now (slots .exit)) ⌝ }
-{
-    if keys.len() < n {
-        return n;
-    }
-    if slots.len() < n {
-        return n;
-    }
-    let spot = columns::seek(keys, n, key);
-    match spot {
-        Spot::Old(i) => span(keys, slots, n, i, i + 1),
-        Spot::New(_) => n,
-    }
-}
-
-// Takes the range's entries out, and answers how many entries are left.
-pub fn remove(keys: &mut [u64], slots: &mut [u64], n: usize, lo: Bound, hi: Bound) -> usize
-    ensures { λ r. ⌜ AfterRemove (now (keys .entry)) (now (slots .entry)) n lo hi r (now (keys .exit)) (now (slots .exit)) ⌝ }
-{
-    if keys.len() < n {
-        return n;
-    }
-    if slots.len() < n {
-        return n;
-    }
-    let i = columns::before(keys, n, lo);
-    let j = columns::before(keys, n, hi);
-    if j <= i {
-        return n;
-    }
-    span(keys, slots, n, i, j)
-}
-
-// Takes the entries from place i up to place j out: their slots become free.
-fn span(keys: &mut [u64], slots: &mut [u64], n: usize, i: usize, j: usize) -> usize
-    requires { ⌜ (i ≤ j) × (j ≤ n) × (n ≤ length (now keys)) × (n ≤ length (now slots)) ⌝ }
-    ensures { λ r. ⌜ AfterSpan (now (keys .entry)) (now (slots .entry)) n i j r (now (keys .exit)) (now (slots .exit)) ⌝ }
-{
-    columns::cut(keys, n, i, j);
-    slots::sink(slots, n, i, j);
-    n - (j - i)
 }

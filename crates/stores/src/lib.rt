@@ -1,7 +1,7 @@
 // Setting a key's value in the table of `records`: it goes where the key's value stands, or the key is
 // new and gets the first free slot. Nothing is asked of a caller.
-use columns::Spot;
 use limits::VALUE_MAX;
+use searches::Spot;
 ghost use Prim.Native.Nat.{_≤_};
 ghost use lib.ListN.{length};
 ghost use Rattle.limits.specs.Limits.{valueMax};
@@ -36,7 +36,7 @@ pub fn set(
     if !records::fits(keys.len(), slots.len(), lens.len(), values.len(), n) {
         return Stored::Full;
     }
-    let spot = columns::seek(keys, n, key);
+    let spot = searches::seek(keys, n, key);
     match spot {
         Spot::Old(i) => renew(slots, lens, values, n, i, value),
         Spot::New(p) => add(keys, slots, lens, values, n, p, key, value),

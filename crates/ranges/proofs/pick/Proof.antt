@@ -12,7 +12,7 @@ use Rattle.keys.specs.Bound.{holds}
 use Rattle.records.specs.Table.{Table, within, Listed, Size}
 use Rattle.memory.specs.Bytes.{part}
 use Rattle.records.specs.Memory.{valueAt, Keeps}
-use Rattle.columns.specs.Column.{Before}
+use Rattle.searches.specs.Search.{Before}
 use Rattle.ranges.specs.Inner.{Noted}
 use Rattle.records.proofs.Tables.{window-listed, listed-cong}
 use Rattle.records.proofs.Slotted.{in-keys}

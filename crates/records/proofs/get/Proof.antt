@@ -14,7 +14,7 @@ use Rattle.records.specs.Answers.{GetCases}
 use Rattle.records.specs.Inner.{PlacedCases}
 use Rattle.records.specs.declared.Found.{Found}
 use Rattle.records.specs.declared.Found.the-variants.{At, Nothing}
-use Rattle.columns.proofs.Columns.{sought-as}
+use Rattle.searches.proofs.Spots.{sought-as}
 use Rattle.records.proofs.Slotted.{in-keys, place-room}
 use Rattle.records.proofs.get.Statement.{statement}
 use Rattle.records.proofs.get.Tie as tie

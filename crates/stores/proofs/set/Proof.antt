@@ -8,9 +8,9 @@ use borrow.Author.Needs.{needs}
 use borrow.Author.Tests.{not-true, not-false}
 use lib.ListN.{length, getD}
 use Rattle.limits.specs.Limits.{valueMax}
-use Rattle.columns.specs.Column.{SeekCases}
-use Rattle.columns.specs.declared.Spot.the-variants.{Old, New}
-use Rattle.columns.proofs.Columns.{sought-as}
+use Rattle.searches.specs.Search.{SeekCases}
+use Rattle.searches.specs.declared.Spot.the-variants.{Old, New}
+use Rattle.searches.proofs.Spots.{sought-as}
 use Rattle.records.specs.Table.{Value}
 use Rattle.stores.specs.Answers.{SetCases}
 use Rattle.stores.specs.Inner.{AddCases, RenewCases}

@@ -77,7 +77,7 @@ pub fn delete(
     key: usize,
 ) -> Run {
     model::put(model, key, 0);
-    let left = records::delete(keys, slots, run.entries, key as u64);
+    let left = removals::delete(keys, slots, run.entries, key as u64);
     let count = model::count(model, 0, SPACE);
     judged(run, Replaced::Entries(left), ENTRIES, count)
 }
@@ -91,7 +91,7 @@ pub fn remove(
     hi: usize,
 ) -> Run {
     model::clear(model, lo, hi);
-    let left = records::remove(keys, slots, run.entries, bound(lo), bound(hi));
+    let left = removals::remove(keys, slots, run.entries, bound(lo), bound(hi));
     let count = model::count(model, 0, SPACE);
     judged(run, Replaced::Entries(left), ENTRIES, count)
 }
@@ -157,7 +157,7 @@ fn left(keys: &[u64; ROOM], run: Run, op: u64, count: usize) -> Run {
     let lo = bound(list::low(op));
     let hi = bound(list::high(op));
     let ks = list::column(op, list::KEYS);
-    let said = entries::left(keys, run.entries, lo, hi, &ks, list::many(op));
+    let said = counts::left(keys, run.entries, lo, hi, &ks, list::many(op));
     let mut next = run;
     match list::fault(op) {
         list::FALLING | list::MANY => {}

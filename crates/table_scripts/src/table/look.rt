@@ -113,7 +113,7 @@ fn wrong(part: &[u8], seed: u64) -> u64 {
 
 // The range has as many entries as in the model.
 pub fn count(keys: &[u64; ROOM], model: &[u64; SPACE], run: Run, lo: usize, hi: usize) -> Run {
-    let found = ranges::count(keys, run.entries, bound(lo), bound(hi));
+    let found = counts::count(keys, run.entries, bound(lo), bound(hi));
     judged(run, found == model::count(model, lo, hi))
 }
 

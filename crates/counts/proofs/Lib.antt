@@ -1,0 +1,2 @@
+-- `News` has the laws by which the entries that a replacement leaves are counted.
+pub mod News

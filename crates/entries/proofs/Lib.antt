@@ -1,2 +1,0 @@
--- `Counts` has the laws by which the entries that a replacement leaves are counted.
-pub mod Counts

@@ -1,0 +1,2 @@
+-- `Swap` has the laws of two slots exchanged.
+pub mod Swap
