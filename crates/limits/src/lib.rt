@@ -1,6 +1,6 @@
 // The numbers that the documents name, for code; specs/Limits.antt has the same numbers for
-// definitions, and a proof that uses both fails if they differ. No other file has their digits,
-// but for the programs that judge the product, which have them from the documents.
+// definitions, and a proof that uses both fails if they differ. No other code, definition or proof of
+// the product has their digits; the programs that judge it have them from the documents.
 
 // A value's bytes: document 01, section 5, drops "a value of 1,024 bytes or more".
 pub const VALUE_MAX: usize = 1023;

@@ -11,7 +11,7 @@ ghost use Rattle.memory.specs.Bytes.{Copied, Same};
 // The bytes go through a local array, a chunk at a time, because two slices may not be told apart
 // by the compiler: with the array between them the two loops of a chunk become one call of memmove.
 // (Looked at with `objdump -dr` in a static library that exports a call of this function: its loop
-// has one call of memmove, and neither the array nor another store is left.)
+// has one call of memmove and no other store, and the array is gone.)
 pub fn copy(src: &[u8], dst: &mut [u8], at: usize) -> bool
     ensures { λ r. ⌜ Copied (now (src .entry)) (now (dst .entry)) at r (now (dst .exit)) ⌝ }
 {
