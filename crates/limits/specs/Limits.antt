@@ -5,3 +5,7 @@ use Prim.Native.Nat.{ℕ}
 -- the most bytes that a value may have
 abbrev pub valueMax : ℕ
 valueMax = 1023
+
+-- the most bytes that a list of entries may take; an address is shorter
+abbrev pub bytesMax : ℕ
+bytesMax = 0x100000

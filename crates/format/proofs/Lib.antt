@@ -1,0 +1,5 @@
+pub mod Numbers
+pub mod Clear
+pub mod Reading
+pub mod Listing
+pub mod Answers

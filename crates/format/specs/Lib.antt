@@ -1,0 +1,4 @@
+pub mod Number
+pub mod Format
+pub mod Place
+pub mod Answers

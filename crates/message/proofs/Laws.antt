@@ -1,0 +1,82 @@
+-- The laws of messages that callers go by: bytes are those of one message at most, no message's bytes begin another's, and what was written is
+-- read back as itself.
+-- Assumes nothing.
+use mathlib.Core.Path.{_≡_, refl, sym, ap, _∙_}
+use mathlib.Core.List.{List, [], _++_}
+use mathlib.Core.Option.{Option, none, some}
+use Prim.Native.Nat.{ℕ, zero, suc}
+use Rattle.keys.specs.declared.Bound.{Bound}
+use Rattle.keys.specs.declared.Bound.the-variants.{Key, End}
+use Rattle.format.specs.Format.{Of}
+use Rattle.format.proofs.Clear.{injective, no-prefix}
+use Rattle.message.specs.Message.{Body, get, set, reply, redirect, shard, delegate, Datagram, message, ack}
+use Rattle.message.specs.Table.{fields, parts, body, datagram, keyOf, bodyValue, datagramValue, written, Valid}
+use Rattle.message.specs.View.{bytesOf, bodyOf}
+use Rattle.message.specs.Answers.{AfterParse, ParseCases}
+use Rattle.message.specs.declared.Parsed.{Parsed}
+use Rattle.message.specs.declared.Parsed.the-variants.{Message, Ack, Invalid}
+
+-- ---- a message is told by the value that is written
+
+boundOf : Option ℕ → Bound
+boundOf none = End
+boundOf (some k) = Key k
+
+same-bound : (b : Bound) → boundOf (keyOf b) ≡ b
+unfolding boundOf
+same-bound (Key k) = refl
+same-bound End = refl
+
+bodyIs : (t : ℕ) → Of (fields t) → Body
+bodyIs zero k = get k
+bodyIs (suc zero) v = set (v .0) (v .1)
+bodyIs (suc (suc zero)) v = reply (v .0) (v .1)
+bodyIs (suc (suc (suc zero))) v = redirect (v .0) (v .1)
+bodyIs (suc (suc (suc (suc zero)))) v = shard (boundOf (v .0 .0)) (boundOf (v .0 .1)) (v .1)
+bodyIs (suc (suc (suc (suc (suc zero))))) v = delegate (boundOf (v .0 .0)) (boundOf (v .0 .1)) (v .1)
+bodyIs (suc (suc (suc (suc (suc (suc t)))))) v = get v
+
+same-body : (b : Body) → bodyIs (bodyValue b .0) (bodyValue b .1) ≡ b
+unfolding bodyIs
+same-body (get k) = refl
+same-body (set k v) = refl
+same-body (reply k v) = refl
+same-body (redirect k a) = refl
+same-body (shard lo hi a) = λ i. shard (same-bound lo i) (same-bound hi i) a
+same-body (delegate lo hi l) = λ i. delegate (same-bound lo i) (same-bound hi i) l
+
+datagramIs : (t : ℕ) → Of (parts t) → Datagram
+datagramIs zero v = message (v .0) (v .1 .0) (bodyIs (v .1 .1 .0) (v .1 .1 .1))
+datagramIs (suc zero) n = ack n
+datagramIs (suc (suc t)) n = ack n
+
+same-datagram : (m : Datagram) → datagramIs (datagramValue m .0) (datagramValue m .1) ≡ m
+unfolding datagramIs
+same-datagram (message n a b) = ap (message n a) (same-body b)
+same-datagram (ack n) = refl
+
+told : (m m′ : Datagram) → datagramValue m ≡ datagramValue m′ → m ≡ m′
+told m m′ e = sym (same-datagram m) ∙ ap (λ (v : Of datagram). datagramIs (v .0) (v .1)) e ∙ same-datagram m′
+
+-- ---- the laws
+
+-- different messages have different bytes
+pub one-message : (m m′ : Datagram) → Valid m → Valid m′ → written m ≡ written m′ → m ≡ m′
+one-message m m′ g g′ e = told m m′ (injective datagram (datagramValue m) (datagramValue m′) g g′ e)
+
+-- .. and none of them begins another's
+pub no-message-begins : (m m′ : Datagram) → Valid m → Valid m′ → (rest : List ℕ) → written m ++ rest ≡ written m′ → (m ≡ m′) × (rest ≡ [])
+no-message-begins m m′ g g′ rest e =
+    let u = no-prefix datagram (datagramValue m) (datagramValue m′) g g′ rest e in (told m m′ (u .0), u .1)
+
+-- the message that an answer describes; for Invalid it is none
+abbrev pub Describes : List ℕ → Parsed → Datagram → Type 0
+Describes s (Message n a b) m = message n (bytesOf s a) (bodyOf s b) ≡ m
+Describes s (Ack n) m = ack n ≡ m
+Describes s Invalid m = ⊥
+
+-- what was written is read back as itself: whatever `parse` answers on the bytes of a message describes that message
+pub read-back : (m : Datagram) → Valid m → (r : Parsed) → AfterParse (written m) r → Describes (written m) r m
+read-back m g (Message n a b) A = one-message _ m (A .is .0) g (A .is .1)
+read-back m g (Ack n) A = one-message (ack n) m (A .is .0) g (A .is .1)
+read-back m g Invalid A = A .is m g refl

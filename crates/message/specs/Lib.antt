@@ -1,0 +1,4 @@
+pub mod Message
+pub mod Table
+pub mod View
+pub mod Answers
