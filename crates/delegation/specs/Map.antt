@@ -49,6 +49,11 @@ pub record AfterStart (lows owners : List ℕ) (v : ℕ) (r : Changed) (lows′ 
 pub record Owner (lows owners : List ℕ) (n key r : ℕ) : Type 0 where
   pub is : (f : ℕ → ℕ) → Keeps lows owners n f → r ≡ f key
 
+-- r says whether n bounds, and at least one, fit what is lent
+pub record Enough (lows owners : List ℕ) (n : ℕ) (r : Bool) : Type 0 where
+  pub yes : r ≡ true → (0 < n) × (n ≤ length lows) × (n ≤ length owners)
+  pub no : r ≡ false → 0 < n → n ≤ length lows → n ≤ length owners → ⊥
+
 abbrev pub SetCases : Changed → (lows owners : List ℕ) → ℕ → Bound → Bound → ℕ → (lows′ owners′ : List ℕ) → Type 0
 SetCases (Bounds m) lows owners n lo hi v lows′ owners′ =
     (f : ℕ → ℕ) → Keeps lows owners n f → Keeps lows′ owners′ m (updated lo hi v f)

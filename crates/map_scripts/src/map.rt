@@ -168,8 +168,8 @@ fn change(
     owner: u64,
 ) -> Run {
     let want = model::bounds_after(model, lo, hi, owner);
-    let said = delegation::bounds_after(lows, owners, run.bounds, bound(lo), bound(hi), owner);
-    let answer = delegation::set(lows, owners, run.bounds, bound(lo), bound(hi), owner);
+    let said = grants::bounds_after(lows, owners, run.bounds, bound(lo), bound(hi), owner);
+    let answer = grants::set(lows, owners, run.bounds, bound(lo), bound(hi), owner);
     if want <= lows.len() {
         model::give(model, lo, hi, owner);
     }
@@ -233,7 +233,7 @@ fn same_whole(
     hi: usize,
     owner: u64,
 ) -> Run {
-    let whole = delegation::whole(lows, owners, run.bounds, bound(lo), bound(hi), owner);
+    let whole = plans::whole(lows, owners, run.bounds, bound(lo), bound(hi), owner);
     let others = model::others(model, lo, hi, owner);
     let mut next = run;
     next.differences = more(next.differences, whole != (others == 0));

@@ -79,9 +79,9 @@ fn update(
     hi: Bound,
     owner: u64,
 ) -> usize {
-    let expected = delegation::bounds_after(lows, owners, n, lo, hi, owner);
+    let expected = grants::bounds_after(lows, owners, n, lo, hi, owner);
     show::asked(lo, hi, owner, expected);
-    let answer = delegation::set(lows, owners, n, lo, hi, owner);
+    let answer = grants::set(lows, owners, n, lo, hi, owner);
     let now = show::answer(answer, n);
     show::list(lows, owners, now);
     show::owners(lows, owners, now);

@@ -145,7 +145,7 @@ fn whole(lows: &[u64], owners: &[u64], n: usize, lo: Bound, hi: Bound) {
 
 // The owner's letter if the whole range is its.
 fn whole_for(lows: &[u64], owners: &[u64], n: usize, lo: Bound, hi: Bound, owner: u64) {
-    if delegation::whole(lows, owners, n, lo, hi, owner) {
+    if plans::whole(lows, owners, n, lo, hi, owner) {
         letter(owner);
     } else {
         say(b"-");
