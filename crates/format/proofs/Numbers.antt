@@ -3,7 +3,7 @@
 use mathlib.Core.Path.{_≡_, refl, sym, ap, _∙_, subst}
 use mathlib.Core.List.{List, [], _∷_, _++_, head-eq-of-cons-eq, tail-eq-of-cons-eq}
 use Prim.Native.Nat.{ℕ, zero, suc, _+_, _*_, _/_, _%_, _^_, _≤_, _<_}
-use native.Mathlib.Nat.{pow-succ', mul-assoc}
+use native.Mathlib.Nat.{pow-succ', mul-assoc, div-one, div-div-eq-div-mul}
 use native.Mathlib.Omega.{arith}
 use lib.ListN.{length, take, drop, getD, length-drop}
 use lib.Seq.{drop-cons}
@@ -75,3 +75,19 @@ worth-two s at = let e : at + 1 ≡ suc at = omega arith in rw e (omega arith)
 
 pub worth-twice : (s : List ℕ) (at k m : ℕ) → m ≡ base ^ k → {x y : ℕ} → x ≡ worth s at k → y ≡ worth s (at + k) k → x + m * y ≡ worth s at (k + k)
 worth-twice s at k m e p q = rw (e, p, q) (sym (worth-add s at k k))
+
+pub digits-add : (j k n : ℕ) → digits (j + k) n ≡ digits j n ++ digits k (n / base ^ j)
+unfolding digits
+digits-add zero k n =
+    let z : 0 + k ≡ k = omega arith in
+    let o : n / base ^ 0 ≡ n = div-one n in
+    rw (z, o) refl
+digits-add (suc j) k n =
+    let z : suc j + k ≡ suc (j + k) = omega arith in
+    let o : n / base ^ suc j ≡ n / base / base ^ j = ap (λ (x : ℕ). n / x) (pow-succ' base j) ∙ sym (div-div-eq-div-mul n base (base ^ j)) in
+    rw (z, o) (ap (λ (l : List ℕ). n % base ∷ l) (digits-add j k (n / base)))
+
+-- two bytes, written out
+pub digits-two : (n : ℕ) → digits 2 n ≡ n % 256 ∷ n / 256 % 256 ∷ []
+unfolding digits
+digits-two n = refl

@@ -1,7 +1,7 @@
 -- The laws of a byte string written over a part of a longer one.
 -- Assumes nothing.
 use mathlib.Core.Path.{_≡_, refl, sym, ap, _∙_}
-use mathlib.Core.List.{List, [], _∷_, _++_, append-assoc}
+use mathlib.Core.List.{List, [], _∷_, _++_, append-assoc, append-nil}
 use Prim.Native.Nat.{ℕ, _+_, _-_, _≤_, _<_}
 use native.Mathlib.Omega.{arith}
 use lib.ListN.{length, take, drop, getD, length-append, length-drop, List·getD-append}
@@ -60,3 +60,22 @@ module _ (d : List ℕ) (at : ℕ) (s : List ℕ) (h : at + length s ≤ length 
       ∙ ap (drop (p - (at + length s))) (drop-at (take at d ++ s) (drop (at + length s) d) (at + length s) head)
       ∙ drop-drop (p - (at + length s)) (at + length s) d)
       ∙ ap (λ (k : ℕ). take n (drop k d)) e
+
+-- nothing written changes nothing, and two strings written one behind the other are their join
+pub placed-nil : (d : List ℕ) (at : ℕ) → placed d at [] ≡ d
+placed-nil d at =
+    let e : at + 0 ≡ at = omega arith in
+    rw e (ap (λ (l : List ℕ). l ++ drop at d) (append-nil (take at d)) ∙ lib.ListN.take-append-drop at d)
+
+pub placed-then : (d : List ℕ) (at : ℕ) (a b : List ℕ) → at + (length a + length b) ≤ length d → placed (placed d at a) (at + length a) b ≡ placed d at (a ++ b)
+placed-then d at a b h =
+    let fa : at + length a ≤ length d = omega arith in
+    let l : length (take at d ++ a) ≡ at + length a = length-append (take at d) a ∙ ap (λ (k : ℕ). k + length a) (length-take-le at d (omega arith)) in
+    let t : take (at + length a) (placed d at a) ≡ take at d ++ a = take-at (take at d ++ a) (drop (at + length a) d) (at + length a) l in
+    let e : at + length a + length b ≡ at + length (a ++ b) = omega (arith, length-append a b) in
+    let r : drop (at + length a + length b) (placed d at a) ≡ drop (at + length (a ++ b)) d =
+    sym (drop-drop (length b) (at + length a) (placed d at a))
+    ∙ ap (drop (length b)) (drop-at (take at d ++ a) (drop (at + length a) d) (at + length a) l)
+    ∙ drop-drop (length b) (at + length a) d
+    ∙ ap (λ (k : ℕ). drop k d) e in
+    rw (t, r) (ap (λ (x : List ℕ). x ++ drop (at + length (a ++ b)) d) (append-assoc (take at d) a b))
