@@ -32,3 +32,11 @@ pub enum Parsed {
     Ack(u64),
     Invalid,
 }
+
+// What writing a message answers: how many bytes it takes, that they do not fit what is lent, or that
+// there is no such message, because an address or a list is too long or a list's keys do not rise.
+pub enum Written {
+    Bytes(usize),
+    NoRoom,
+    Invalid,
+}

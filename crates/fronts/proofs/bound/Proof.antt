@@ -1,0 +1,43 @@
+-- `fronts::bound` meets its contract.
+-- Assumes nothing.
+use Prim.Native.Nat.{_-_}
+use borrow.Author.Needs.{needs}
+use Rattle.fronts.proofs.bound.Statement.{statement}
+use Rattle.fronts.proofs.bound.Tie as tie
+
+enum-known-b : tie.Need-enum-known-b
+enum-known-b c = search needs
+
+key-requires : tie.Need-key-requires
+key-requires c κs = search needs
+
+enum-told : tie.Need-enum-told
+enum-told c = search needs
+
+byte-requires : tie.Need-byte-requires
+byte-requires c κs = search needs
+
+same-length : tie.Need-same-length
+same-length c = search needs
+
+returns : tie.Need-returns
+returns c = rw (c .before .before .before .before .before .b .given .1) (c .before .before .key .ensures)
+
+same-length-2 : tie.Need-same-length-2
+same-length-2 c = search needs
+
+returns-2 : tie.Need-returns-2
+returns-2 c = rw (c .before .before .before .before .enum-told .given .1) (c .before .before .byte .ensures)
+
+pub bound-spec : {M : Type 1} → statement M
+bound-spec =
+    tie.close
+    (tie.spec
+    enum-known-b
+    key-requires
+    enum-told
+    byte-requires
+    same-length
+    returns
+    same-length-2
+    returns-2)
