@@ -38,16 +38,21 @@ length-front n to t =
       length-counted to,
     )
 
+pub start-length : {n : ℕ} {to : List ℕ} {t more : ℕ} {d : List ℕ} {p : ℕ} {d₁ : List ℕ} → AfterStart n to t more d (At p) d₁ → length d₁ ≡ length d
+start-length {n} {to} {t} {more} {d} {p} {d₁} A =
+    ap length (A .is .3) ∙ length-placed d 0 (front n to t) (omega (arith, A .is .0, A .is .2))
+
 -- the fields behind the front make the whole message
 module _ (f : Format) (v : Of f) (n : ℕ) (to : List ℕ) (t more : ℕ) (d : List ℕ) (long : more ≡ length (encode f v)) where
   whole : length (front n to t ++ encode f v) ≡ length (front n to t) + more
   whole = length-append (front n to t) (encode f v) ∙ ap (λ (k : ℕ). length (front n to t) + k) (sym long)
 
-  pub fields-written : {p : ℕ} {r : Bool} {d₁ d₂ : List ℕ} → StartCases n to t more d (At p) d₁ → Good f v → Copied (encode f v) d₁ p r d₂
+  pub fields-written : {p : ℕ} {r : Bool} {d₁ d₂ : List ℕ} → AfterStart n to t more d (At p) d₁ → Good f v → Copied (encode f v) d₁ p r d₂
       → AfterFields f v n to t d (Bytes (p + more)) d₂
-  fields-written {p} {r} {d₁} {d₂} (e, short, fits, is) g c =
+  fields-written {p} {r} {d₁} {d₂} A g c =
+      let (e, short, fits, is) = A .is in
       let room : 0 + (length (front n to t) + length (encode f v)) ≤ length d = omega (arith, e, fits, long) in
-      let l : length d₁ ≡ length d = ap length is ∙ length-placed d 0 (front n to t) (omega (arith, room)) in
+      let l : length d₁ ≡ length d = start-length A in
       let from : p ≡ 0 + length (front n to t) = omega (arith, e) in
       let w = c .done (omega (arith, fits, long, l)) in
       record {
@@ -62,11 +67,11 @@ module _ (f : Format) (v : Of f) (n : ℕ) (to : List ℕ) (t more : ℕ) (d : L
         );
       }
 
-  pub fields-no-room : {d′ : List ℕ} → StartCases n to t more d NoRoomAtAll d′ → AfterFields f v n to t d NoRoom d′
-  fields-no-room (e, h) = record { is = (e, omega (arith, h, whole)) }
+  pub fields-no-room : {d′ : List ℕ} → AfterStart n to t more d NoRoomAtAll d′ → AfterFields f v n to t d NoRoom d′
+  fields-no-room A = record { is = (A .is .0, omega (arith, A .is .1, whole)) }
 
-  pub fields-no-address : {d′ : List ℕ} → StartCases n to t more d NoAddress d′ → AfterFields f v n to t d Invalid d′
-  fields-no-address (e, h) = record { is = (e, λ q g. omega (arith, h, q)) }
+  pub fields-no-address : {d′ : List ℕ} → AfterStart n to t more d NoAddress d′ → AfterFields f v n to t d Invalid d′
+  fields-no-address A = record { is = (A .is .0, λ q g. omega (arith, A .is .1, q)) }
 
 -- ---- .. as a message of the table
 

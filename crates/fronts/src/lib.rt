@@ -5,9 +5,11 @@ use keys::Bound;
 use limits::BYTES_MAX;
 ghost use mathlib.Core.Path.{_≡_};
 ghost use mathlib.Core.Bool.{true};
+ghost use Prim.Native.Nat.{_+_, _≤_};
 ghost use lib.ListN.{length};
 ghost use Rattle.memory.specs.Bytes.{Copied};
-ghost use Rattle.format.specs.Format.{number, maybe, encode};
+ghost use Rattle.format.specs.Number.{width};
+ghost use Rattle.format.specs.Format.{number, maybe, encode, Good};
 ghost use Rattle.keys.specs.declared.Bound.the-variants.{Key};
 ghost use Rattle.message.specs.Table.{value, keyOf};
 ghost use Rattle.fronts.specs.Front.{AfterStart, given};
@@ -41,9 +43,9 @@ pub fn begin(n: u64, to: &[u8], kind: u8, more: usize, d: &mut [u8]) -> Start
     Start::At(head)
 }
 
-// A bound: its key, or none for end.
+// A bound: its key, or none for end. A bound's key is always a number.
 pub fn bound(b: Bound, d: &mut [u8], at: usize) -> bool
-    ensures { λ r. ⌜ Copied (encode (maybe number) (keyOf b)) (now (d .entry)) at r (now (d .exit)) ⌝ }
+    ensures { λ r. ⌜ Copied (encode (maybe number) (keyOf b)) (now (d .entry)) at r (now (d .exit)) × Good (maybe number) (keyOf b) ⌝ }
 {
     match b {
         Bound::Key(k) => key(k, d, at),
@@ -92,7 +94,7 @@ fn there(v: &[u8], d: &mut [u8], at: usize) -> bool
 
 // The bytes that a bound takes, and those that a value of that length takes, or none.
 pub fn bound_length(b: Bound) -> usize
-    ensures { λ r. ⌜ r ≡ length (encode (maybe number) (keyOf b)) ⌝ }
+    ensures { λ r. ⌜ (r ≡ length (encode (maybe number) (keyOf b))) × (r ≤ 1 + width) ⌝ }
 {
     match b {
         Bound::Key(_) => 1 + WIDTH,
@@ -101,7 +103,7 @@ pub fn bound_length(b: Bound) -> usize
 }
 
 pub fn optional_length(some: bool, v: &[u8]) -> usize
-    ensures { λ r. ⌜ r ≡ length (encode (maybe value) (given some (now (v .entry)))) ⌝ }
+    ensures { λ r. ⌜ (r ≡ length (encode (maybe value) (given some (now (v .entry))))) × (r ≤ 1 + width + length (now (v .entry))) ⌝ }
 {
     if some {
         return 1 + WIDTH + v.len();

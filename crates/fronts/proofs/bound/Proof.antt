@@ -1,6 +1,7 @@
 -- `fronts::bound` meets its contract.
 -- Assumes nothing.
 use Prim.Native.Nat.{_-_}
+use native.Mathlib.Omega.{arith}
 use borrow.Author.Needs.{needs}
 use Rattle.fronts.proofs.bound.Statement.{statement}
 use Rattle.fronts.proofs.bound.Tie as tie
@@ -21,13 +22,13 @@ same-length : tie.Need-same-length
 same-length c = search needs
 
 returns : tie.Need-returns
-returns c = rw (c .before .before .before .before .before .b .given .1) (c .before .before .key .ensures)
+returns c = rw (c .before .before .before .before .before .b .given .1) (c .before .before .key .ensures, omega (arith, c .before .before .before .before .known-told .given))
 
 same-length-2 : tie.Need-same-length-2
 same-length-2 c = search needs
 
 returns-2 : tie.Need-returns-2
-returns-2 c = rw (c .before .before .before .before .enum-told .given .1) (c .before .before .byte .ensures)
+returns-2 c = rw (c .before .before .before .before .enum-told .given .1) (c .before .before .byte .ensures, tt)
 
 pub bound-spec : {M : Type 1} → statement M
 bound-spec =
