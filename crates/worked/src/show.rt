@@ -90,62 +90,104 @@ fn entry(lows: &[u64], owners: &[u64], i: usize) {
     if owners.len() <= i {
         return;
     }
+    pair(lows[i], owners[i]);
+}
+
+// Outside of the function that is lent the map, since every text that is there too makes its proof
+// slower.
+fn pair(low: u64, owner: u64) {
     say(b" (");
-    number(lows[i]);
+    number(low);
     say(b",");
-    letter(owners[i]);
+    letter(owner);
     say(b")");
 }
 
-// The owners of the keys beside the document's bounds.
-pub fn owners(lows: &[u64], owners: &[u64], n: usize) {
+// The map: its bounds, its owners, and whose some ranges are as a whole.
+pub fn map(lows: &[u64], owners: &[u64], n: usize) {
+    list(lows, owners, n);
     say(b"\n  owner of");
-    owner(lows, owners, n, 0);
-    owner(lows, owners, n, 99);
-    owner(lows, owners, n, 100);
-    owner(lows, owners, n, 149);
-    owner(lows, owners, n, 150);
-    owner(lows, owners, n, 199);
-    owner(lows, owners, n, 200);
-    owner(lows, owners, n, 18446744073709551614);
-    owner(lows, owners, n, 18446744073709551615);
+    self::owners(lows, owners, n);
+    say(b"\n  whole");
+    wholes(lows, owners, n);
+    ended();
 }
 
-fn owner(lows: &[u64], owners: &[u64], n: usize, key: u64) {
+// The owners of the keys beside the document's bounds.
+fn owners(lows: &[u64], owners: &[u64], n: usize) {
+    let mut i: usize = 0;
+    while i < 9 {
+        let key = beside(i);
+        keyed(key);
+        letter(delegation::owner(lows, owners, n, key));
+        i += 1;
+    }
+}
+
+fn keyed(key: u64) {
     say(b" ");
     number(key);
     say(b":");
-    letter(delegation::owner(lows, owners, n, key));
 }
 
-// Whose some ranges are as a whole; an empty one is everybody's.
-pub fn wholes(lows: &[u64], owners: &[u64], n: usize) {
-    say(b"\n  whole");
-    whole(lows, owners, n, Bound::Key(7), Bound::Key(7));
-    whole(lows, owners, n, Bound::Key(100), Bound::Key(150));
-    whole(lows, owners, n, Bound::Key(150), Bound::End);
-    whole(
-        lows,
-        owners,
-        n,
-        Bound::Key(0),
-        Bound::Key(18446744073709551615),
-    );
-    whole(lows, owners, n, Bound::Key(0), Bound::End);
+fn beside(i: usize) -> u64 {
+    match i {
+        0 => 0,
+        1 => 99,
+        2 => 100,
+        3 => 149,
+        4 => 150,
+        5 => 199,
+        6 => 200,
+        7 => 18446744073709551614,
+        _ => 18446744073709551615,
+    }
 }
 
-fn whole(lows: &[u64], owners: &[u64], n: usize, lo: Bound, hi: Bound) {
-    say(b" ");
-    range(lo, hi);
-    say(b":");
-    whole_for(lows, owners, n, lo, hi, 1);
-    whole_for(lows, owners, n, lo, hi, 2);
-    whole_for(lows, owners, n, lo, hi, 3);
+// Each range with the letters of those who own the whole of it; an empty one is everybody's.
+fn wholes(lows: &[u64], owners: &[u64], n: usize) {
+    let mut i: usize = 0;
+    while i < 15 {
+        let owner = (i % 3) as u64 + 1;
+        let lo = low(i / 3);
+        let hi = high(i / 3);
+        headed(lo, hi, owner);
+        letter_if(plans::whole(lows, owners, n, lo, hi, owner), owner);
+        i += 1;
+    }
+}
+
+fn low(i: usize) -> Bound {
+    match i {
+        0 => Bound::Key(7),
+        1 => Bound::Key(100),
+        2 => Bound::Key(150),
+        _ => Bound::Key(0),
+    }
+}
+
+fn high(i: usize) -> Bound {
+    match i {
+        0 => Bound::Key(7),
+        1 => Bound::Key(150),
+        2 => Bound::End,
+        3 => Bound::Key(18446744073709551615),
+        _ => Bound::End,
+    }
+}
+
+// The range stands before the letter of its first owner.
+fn headed(lo: Bound, hi: Bound, owner: u64) {
+    if owner == 1 {
+        say(b" ");
+        range(lo, hi);
+        say(b":");
+    }
 }
 
 // The owner's letter if the whole range is its.
-fn whole_for(lows: &[u64], owners: &[u64], n: usize, lo: Bound, hi: Bound, owner: u64) {
-    if plans::whole(lows, owners, n, lo, hi, owner) {
+fn letter_if(so: bool, owner: u64) {
+    if so {
         letter(owner);
     } else {
         say(b"-");

@@ -1,0 +1,111 @@
+// The x86-64 program around the archive of `crates/judged`. The archive holds x86-64 code only, and a Rust
+// test may be built for another processor, so the test does not link it: it starts this program, under an
+// emulator where one is needed, and asks it over its standard input and output. Everything that a proved
+// function is lent lies in one arena here. The words are 64 bits, the lowest byte first:
+//
+//   at the start it says               the address of the arena
+//   1 COUNT (FUNCTION ARGUMENT*24)*    calls the functions in turn, and answers what each returned
+//   2 AT LENGTH                        answers so many bytes of the arena
+//   3 AT LENGTH BYTE*                  writes bytes into the arena, and answers nothing
+//
+// It ends when its input does; with status 2 for a question that has no sense. It includes no header, so
+// that no C library for x86-64 has to be installed.
+typedef unsigned long word;
+
+long read(int, void *, word);
+long write(int, const void *, word);
+void _exit(int);
+
+#define ARGUMENTS 24
+#define MOST_CALLS 4096
+#define ARENA (8UL << 20)
+
+// Every function of the list is declared alike. By the calling convention each argument that is a number, a
+// bool or a pointer takes one word, and the caller clears away what the function does not look at.
+#define WORDS \
+  word, word, word, word, word, word, word, word, word, word, word, word, \
+  word, word, word, word, word, word, word, word, word, word, word, word
+typedef word function(WORDS);
+#define FUNCTION(name) extern function tagshards_judged_##name;
+#include "functions.inc"
+#undef FUNCTION
+#define FUNCTION(name) tagshards_judged_##name,
+static function *const functions[] = {
+#include "functions.inc"
+};
+#define FUNCTIONS (sizeof functions / sizeof *functions)
+
+static unsigned char arena[ARENA] __attribute__((aligned(64)));
+static unsigned char buffer[65536];
+static word filled, taken;
+
+// The next bytes of the input. Where it ends, so does the program.
+static void take(unsigned char *to, word length) {
+  while (length != 0) {
+    if (taken == filled) {
+      long got = read(0, buffer, sizeof buffer);
+      if (got <= 0) _exit(0);
+      filled = (word)got;
+      taken = 0;
+    }
+    word part = filled - taken < length ? filled - taken : length;
+    __builtin_memcpy(to, buffer + taken, part);
+    taken += part;
+    to += part;
+    length -= part;
+  }
+}
+
+static word take_word(void) {
+  word w;
+  take((unsigned char *)&w, sizeof w);
+  return w;
+}
+
+static void give(const void *from, word length) {
+  const unsigned char *next = from;
+  while (length != 0) {
+    long gone = write(1, next, length);
+    if (gone <= 0) _exit(1);
+    next += gone;
+    length -= (word)gone;
+  }
+}
+
+static word called(const word *a) {
+  return functions[a[0]](a[1], a[2], a[3], a[4], a[5], a[6], a[7], a[8], a[9], a[10], a[11], a[12],
+                         a[13], a[14], a[15], a[16], a[17], a[18], a[19], a[20], a[21], a[22], a[23], a[24]);
+}
+
+static void calls(void) {
+  static word answers[MOST_CALLS];
+  word count = take_word();
+  if (MOST_CALLS < count) _exit(2);
+  for (word i = 0; i < count; i++) {
+    word asked[1 + ARGUMENTS];
+    take((unsigned char *)asked, sizeof asked);
+    if (FUNCTIONS <= asked[0]) _exit(2);
+    answers[i] = called(asked);
+  }
+  give(answers, count * sizeof *answers);
+}
+
+int main(void) {
+  word start = (word)arena;
+  give(&start, sizeof start);
+  for (;;) {
+    word kind = take_word();
+    if (kind == 1) {
+      calls();
+      continue;
+    }
+    word at = take_word(), length = take_word();
+    if (ARENA < at || ARENA - at < length) _exit(2);
+    if (kind == 2)
+      give(arena + at, length);
+    else if (kind == 3)
+      take(arena + at, length);
+    else
+      _exit(2);
+  }
+}

@@ -1,0 +1,13 @@
+//! The judges: random scripts on the proved code, each answer held to a simple model.
+//!
+//! `library` starts the program that has the proved code and calls its functions; `draw` is the pseudo-random
+//! rule; `bound` is what all layers share. A layer has a file here with its functions under Rust types, a file
+//! in `models` with what it should do, written as plainly as can be, and a file in tests/ with its scripts.
+//! Scripts follow a fixed rule, so every run does the same, and a failure names the seed and the operation.
+pub mod bound;
+pub mod draw;
+pub mod library;
+pub mod map;
+pub mod models;
+pub mod script;
+pub mod table;

@@ -1,0 +1,3 @@
+//! What each layer should do, written as plainly as can be and with nothing of the proved code.
+pub mod map;
+pub mod table;
