@@ -27,3 +27,7 @@ copied-then a b d d₁ d₂ at q {r} {r′} e h x y =
     z .1 ∙ ap (λ (v : List ℕ). placed v q b) u ∙ ap (λ (k : ℕ). placed (placed d at a) k b) e ∙ placed-then d at a b h in
     let c = copied-yes (a ++ b) d at d₂ (omega (arith, length-append a b)) p in
     subst (λ (t : Bool). Copied (a ++ b) d at t d₂) (sym (z .0)) c
+
+-- what fits leaves the length as it was
+pub copied-length : (s d : List ℕ) (at : ℕ) (d′ : List ℕ) {r : Bool} → at + length s ≤ length d → Copied s d at r d′ → length d′ ≡ length d
+copied-length s d at d′ h x = ap length (x .done h .1) ∙ length-placed d at s h
