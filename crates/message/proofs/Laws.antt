@@ -1,10 +1,12 @@
 -- The laws of messages that callers go by: bytes are those of one message at most, no message's bytes begin another's, and what was written is
 -- read back as itself.
 -- Assumes nothing.
-use mathlib.Core.Path.{_≡_, refl, sym, ap, _∙_}
+use mathlib.Core.Path.{_≡_, refl, sym, ap, ap₂, _∙_, subst}
 use mathlib.Core.List.{List, [], _++_}
 use mathlib.Core.Option.{Option, none, some}
-use Prim.Native.Nat.{ℕ, zero, suc}
+use Prim.Native.Nat.{ℕ, zero, suc, _+_}
+use lib.ListN.{length, take, drop}
+use lib.Seq.{take-at}
 use Rattle.keys.specs.declared.Bound.{Bound}
 use Rattle.keys.specs.declared.Bound.the-variants.{Key, End}
 use Rattle.format.specs.Format.{Of}
@@ -12,9 +14,10 @@ use Rattle.format.proofs.Clear.{injective, no-prefix}
 use Rattle.message.specs.Message.{Body, get, set, reply, redirect, shard, delegate, Datagram, message, ack}
 use Rattle.message.specs.Table.{fields, parts, body, datagram, keyOf, bodyValue, datagramValue, written, Valid}
 use Rattle.message.specs.View.{bytesOf, bodyOf}
-use Rattle.message.specs.Answers.{AfterParse, ParseCases}
+use Rattle.message.specs.Answers.{AfterParse, AfterWrite}
 use Rattle.message.specs.declared.Parsed.{Parsed}
 use Rattle.message.specs.declared.Parsed.the-variants.{Message, Ack, Invalid}
+use Rattle.message.specs.declared.Written.the-variants.{Bytes}
 
 -- ---- a message is told by the value that is written
 
@@ -80,3 +83,10 @@ pub read-back : (m : Datagram) → Valid m → (r : Parsed) → AfterParse (writ
 read-back m g (Message n a b) A = one-message _ m (A .is .0) g (A .is .1)
 read-back m g (Ack n) A = one-message (ack n) m (A .is .0) g (A .is .1)
 read-back m g Invalid A = A .is m g refl
+
+-- .. also from the bytes that a writer left: reading as many of them as it said gives the message
+pub written-back : (m : Datagram) (d : List ℕ) (n : ℕ) (d′ : List ℕ) → AfterWrite m d (Bytes n) d′ → (r : Parsed) → AfterParse (take n d′) r
+    → Describes (take n d′) r m
+written-back m d n d′ W r A =
+    let e : take n d′ ≡ written m = ap₂ take (W .is .1) (W .is .2) ∙ take-at (written m) (drop (0 + length (written m)) d) (length (written m)) refl in
+    subst (λ (s : List ℕ). AfterParse s r → Describes s r m) (sym e) (read-back m (W .is .0) r) A
