@@ -1,9 +1,7 @@
 // Messages read from the bytes of a datagram (document 01, section 3). `parse` answers a view by value and
 // copies nothing. Its work is bounded by the datagram's length, whatever counts and lengths the bytes
 // claim: each byte is looked at once, by the reader of the part that it stands in.
-pub mod body;
-
-use body::BodyRead;
+use bodies::BodyRead;
 use format::NumberRead;
 use format::TextRead;
 use format::WIDTH;
@@ -39,7 +37,7 @@ fn message(s: &[u8]) -> Parsed
     let TextRead::Is(address) = format::short_text(s, 1 + WIDTH, BYTES_MAX) else {
         return Parsed::Invalid;
     };
-    let BodyRead::Is(b, next) = body::read(s, address.at + address.len) else {
+    let BodyRead::Is(b, next) = bodies::read(s, address.at + address.len) else {
         return Parsed::Invalid;
     };
     if next < s.len() {

@@ -9,7 +9,8 @@ use Rattle.parsing.proofs.message.Tie as tie
 use Rattle.format.proofs.Answers.{number-as, text-as}
 use Rattle.format.proofs.Reading.{pair-found, pair-first, pair-second, choice-found, choice-lacks}
 use Rattle.message.specs.Table.{datagrams, parts}
-use Rattle.parsing.proofs.Parts.{body-as, whole, none, trailing}
+use Rattle.parsing.proofs.Parts.{whole, none, trailing}
+use Rattle.bodies.proofs.Rows.{body-as}
 
 number-requires : tie.Need-number-requires
 number-requires c κs = search needs
