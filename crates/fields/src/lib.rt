@@ -66,11 +66,11 @@ pub fn value(s: &[u8], at: usize) -> ValueRead
     if s.len() <= at {
         return ValueRead::Missing;
     }
-    let t = s[at];
-    if t == 0 {
+    let there = s[at];
+    if there == 0 {
         return ValueRead::Is(ValueView::None, at + 1);
     }
-    if t != 1 {
+    if there != 1 {
         return ValueRead::Missing;
     }
     let TextRead::Is(part) = format::text(s, at + 1) else {

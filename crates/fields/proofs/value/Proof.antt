@@ -11,8 +11,8 @@ use Rattle.format.proofs.Reading.{maybe-none, maybe-some, maybe-empty, maybe-ot
 returns : tie.Need-returns
 returns c = record { is = maybe-empty _ _ (c .if1 .taken) }
 
-shared-slice-read-t : tie.Need-shared-slice-read-t
-shared-slice-read-t c = search needs
+shared-slice-read-there : tie.Need-shared-slice-read-there
+shared-slice-read-there c = search needs
 
 add-t10 : tie.Need-add-t10
 add-t10 c = search needs
@@ -53,7 +53,7 @@ value-spec =
     tie.close
     (tie.spec
     returns
-    shared-slice-read-t
+    shared-slice-read-there
     add-t10
     returns-2
     returns-3

@@ -15,7 +15,7 @@ shared-slice-read-result : tie.Need-shared-slice-read-result
 shared-slice-read-result c = search needs
 
 cast-result : tie.Need-cast-result
-cast-result c = omega (arith, c .shared-slice-known .given (c .before .args .at))
+cast-result c = omega (arith, c .shared-slice-known .given (c .before .args .at), c .shared-slice-known .given (c .before .args .at + 1))
 
 add-result : tie.Need-add-result
 add-result c = search needs
@@ -24,10 +24,10 @@ shared-slice-read-result-2 : tie.Need-shared-slice-read-result-2
 shared-slice-read-result-2 c = search needs
 
 cast-result-2 : tie.Need-cast-result-2
-cast-result-2 c = omega (arith, c .shared-slice-known2 .given (c .before .before .args .at + 1))
+cast-result-2 c = omega (arith, c .shared-slice-known2 .given (c .before .before .args .at), c .shared-slice-known2 .given (c .before .before .args .at + 1))
 
 mul-result : tie.Need-mul-result
-mul-result c = omega (arith, c .shared-slice-known2 .given (c .before .before .args .at + 1))
+mul-result c = omega (arith, c .shared-slice-known2 .given (c .before .before .args .at), c .shared-slice-known2 .given (c .before .before .args .at + 1))
 
 add-result-2 : tie.Need-add-result-2
 add-result-2 c = omega (arith, c .before .shared-slice-known .given (c .before .before .args .at), c .shared-slice-known2 .given (c .before .before .args .at + 1))

@@ -1,14 +1,14 @@
 -- `writing::two` meets its contract.
 -- Assumes nothing.
 use mathlib.Core.List.{[], _∷_}
-use Prim.Native.Nat.{_-_, _%_}
+use Prim.Native.Nat.{_+_, _<_}
+use lib.ListN.{length}
 use native.Mathlib.Omega.{arith}
 use native.Mathlib.Numerals.{add-one}
 use borrow.Author.Needs.{needs}
-use lib.ListN.{length-set}
 use Rattle.writing.proofs.two.Statement.{statement}
 use Rattle.writing.proofs.two.Tie as tie
-use lib.Seq.{sets-eq}
+use lib.Seq.{sets-eq, lt-length-set}
 use Rattle.format.proofs.Numbers.{digits-two}
 
 cast-d : tie.Need-cast-d
@@ -24,7 +24,9 @@ add-d : tie.Need-add-d
 add-d c = search needs
 
 slice-write-d-2 : tie.Need-slice-write-d-2
-slice-write-d-2 c = omega (arith, length-set (c .args .d .now) (c .args .at) (c .args .n % 256), c .pre)
+slice-write-d-2 c =
+    let h : c .args .at + 1 < length (c .args .d .now) = omega (arith, c .pre) in
+    lt-length-set (c .args .d .now) (c .args .at) _ h
 
 same-length : tie.Need-same-length
 same-length c = search needs
