@@ -87,6 +87,10 @@ module _ (b : Body) (n : ℕ) (to : List ℕ) (t : ℕ) (v : Of (fields t)) (d :
       front-is n to t (encode (fields t) v)
       ∙ ap (λ (x : Of body). 0 ∷ (digits width n ++ (counted to ++ encode body x))) (sym is)
 
+  -- the length of a message, without writing it
+  pub message-length : length (written (message n to b)) ≡ length (front n to t) + length (encode (fields t) v)
+  message-length = ap length (sym bytes) ∙ length-append (front n to t) (encode (fields t) v)
+
   fine : length to < bytesMax → Good (fields t) v → Valid (message n to b)
   fine short g =
       let q : Good body (bodyValue b) = subst (λ (x : Of body). Good body x) (sym is) (row, g) in

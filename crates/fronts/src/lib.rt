@@ -5,14 +5,14 @@ use keys::Bound;
 use limits::BYTES_MAX;
 ghost use mathlib.Core.Path.{_≡_};
 ghost use mathlib.Core.Bool.{true};
-ghost use Prim.Native.Nat.{_+_, _≤_};
+ghost use Prim.Native.Nat.{ℕ, _+_, _≤_};
 ghost use lib.ListN.{length};
 ghost use Rattle.memory.specs.Bytes.{Copied};
 ghost use Rattle.format.specs.Number.{width};
 ghost use Rattle.format.specs.Format.{number, maybe, encode, Good};
 ghost use Rattle.keys.specs.declared.Bound.the-variants.{Key};
 ghost use Rattle.message.specs.Table.{value, keyOf};
-ghost use Rattle.fronts.specs.Front.{AfterStart, given};
+ghost use Rattle.fronts.specs.Front.{AfterStart, front, given};
 
 // Where the fields of the body go, or why there is no message.
 pub enum Start {
@@ -41,6 +41,15 @@ pub fn begin(n: u64, to: &[u8], kind: u8, more: usize, d: &mut [u8]) -> Start
     writing::text(to, d, 1 + WIDTH);
     writing::byte(kind, d, last);
     Start::At(head)
+}
+
+// The bytes that the front of a message to that destination takes, whatever its number and kind. What
+// the fields take is told by the functions below, by `delegating::size_of`, and is a number's width for
+// a key; together that is the message's length.
+pub fn front_length(to: &[u8]) -> usize
+    ensures { λ r. ⌜ ((n t : ℕ) → r ≡ length (front n (now (to .entry)) t)) ⌝ }
+{
+    1 + WIDTH + WIDTH + to.len() + 1
 }
 
 // A bound: its key, or none for end. A bound's key is always a number.

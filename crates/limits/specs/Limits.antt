@@ -9,3 +9,7 @@ valueMax = 1023
 -- the most bytes that a list of entries may take; an address is shorter
 abbrev pub bytesMax : ℕ
 bytesMax = 0x100000
+
+-- a transfer has fewer entries than this
+abbrev pub entriesLimit : ℕ
+entriesLimit = 62

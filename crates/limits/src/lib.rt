@@ -7,3 +7,6 @@ pub const VALUE_MAX: usize = 1023;
 
 // The bytes of a list of entries at most, and an address has fewer: document 01, section 3.
 pub const BYTES_MAX: usize = 1048576;
+
+// A transfer has fewer entries than this: document 01, section 5, drops "62 or more entries".
+pub const ENTRIES_LIMIT: usize = 62;

@@ -2,14 +2,18 @@
 -- read back as itself.
 -- Assumes nothing.
 use mathlib.Core.Path.{_≡_, refl, sym, ap, ap₂, _∙_, subst}
-use mathlib.Core.List.{List, [], _++_}
+use mathlib.Core.List.{List, [], _∷_, _++_}
 use mathlib.Core.Option.{Option, none, some}
-use Prim.Native.Nat.{ℕ, zero, suc, _+_}
-use lib.ListN.{length, take, drop}
+use Prim.Native.Nat.{ℕ, zero, suc, _+_, _*_, _≤_, _<_}
+use native.Mathlib.Omega.{arith}
+use lib.ListN.{length, take, drop, length-append}
 use lib.Seq.{take-at}
 use Rattle.keys.specs.declared.Bound.{Bound}
 use Rattle.keys.specs.declared.Bound.the-variants.{Key, End}
-use Rattle.format.specs.Format.{Of}
+use Rattle.limits.specs.Limits.{valueMax, bytesMax, entriesLimit}
+use Rattle.format.specs.Number.{width, digits}
+use Rattle.format.specs.Format.{Of, Entry, counted, rows, listing}
+use Rattle.format.proofs.Numbers.{length-digits}
 use Rattle.format.proofs.Clear.{injective, no-prefix}
 use Rattle.message.specs.Message.{Body, get, set, reply, redirect, shard, delegate, Datagram, message, ack}
 use Rattle.message.specs.Table.{fields, parts, body, datagram, keyOf, bodyValue, datagramValue, written, Valid}
@@ -90,3 +94,29 @@ pub written-back : (m : Datagram) (d : List ℕ) (n : ℕ) (d′ : List ℕ) →
 written-back m d n d′ W r A =
     let e : take n d′ ≡ written m = ap₂ take (W .is .1) (W .is .2) ∙ take-at (written m) (drop (0 + length (written m)) d) (length (written m)) refl in
     subst (λ (s : List ℕ). AfterParse s r → Describes s r m) (sym e) (read-back m (W .is .0) r) A
+
+-- ---- a list that a host would send is never too long for a message
+
+-- each value is one that a table keeps
+abbrev pub Short : List Entry → Type 0
+Short [] = Unit
+Short (e ∷ l) = (length (e .value) ≤ valueMax) × Short l
+
+rows-short : (l : List Entry) → Short l → length (rows l) ≤ length l * (width + width + valueMax)
+rows-short [] h = omega arith
+rows-short (e ∷ l) h =
+    omega (
+      arith,
+      h .0,
+      rows-short l (h .1),
+      length-append (digits width (e .key) ++ counted (e .value)) (rows l),
+      length-append (digits width (e .key)) (counted (e .value)),
+      length-append (digits width (length (e .value))) (e .value),
+      length-digits width (e .key),
+      length-digits width (length (e .value)),
+    )
+
+pub few-fit : (l : List Entry) → length l < entriesLimit → Short l → length (listing l) ≤ bytesMax
+few-fit l n h =
+    let r : length (rows l) ≤ length l * (width + width + valueMax) = rows-short l h in
+    omega (arith, r, n, length-append (digits width (length l)) (rows l), length-digits width (length l))
