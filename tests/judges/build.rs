@@ -1,5 +1,5 @@
-//! Builds the program that calls the proved functions (src/caller.c) from the archive that `rt staticlib judged`
-//! writes, with the compiler, linker and C library of the Rattle toolchain: they make x86-64 programs on every
+//! Builds the program that calls the proved functions (src/caller.c) from the archives that `rt staticlib` writes of
+//! the CRATES, with the compiler, linker and C library of the Rattle toolchain: they make x86-64 programs on every
 //! machine that the toolchain runs on. Tells src/library.rs how the program is started.
 use std::env;
 use std::path::{Path, PathBuf};
@@ -9,32 +9,41 @@ include!("src/functions.rs");
 
 const TARGET: &str = "x86_64-unknown-linux-gnu";
 
+/// The crates whose exported functions are called. Of their archives only the exported names can be seen from
+/// outside, so one program links them all.
+const CRATES: [&str; 2] = ["judged", "judged_messages"];
+
 fn main() {
     let here = PathBuf::from(variable("CARGO_MANIFEST_DIR"));
     let out = PathBuf::from(variable("OUT_DIR"));
-    let archive = here.join("../../target/staticlib/libjudged.a");
-    for path in [
-        &archive,
-        &here.join("src/caller.c"),
-        &here.join("src/functions.rs"),
-    ] {
-        println!("cargo:rerun-if-changed={}", path.display());
+    for file in ["src/caller.c", "src/functions.rs"] {
+        println!("cargo:rerun-if-changed={}", here.join(file).display());
     }
     println!("cargo:rerun-if-env-changed=RATTLE_HOME");
-    if !archive.exists() {
-        fail("target/staticlib/libjudged.a is missing; this makes it: rt staticlib judged");
-    }
+    let archives = CRATES.map(|name| archive(&here, name));
     let own = toolchain().join("on").join(env::consts::ARCH);
     let tools = own.join("toolchain");
-    let program = built(&own, &here, &out, &archive);
+    let program = built(&own, &here, &out, &archives);
     tell("CALLER", &program);
     tell("CALLER_LOADER", &tools.join("lib/ld-linux-x86-64.so.2"));
     tell("CALLER_LIBRARIES", &tools.join("lib"));
     tell("CALLER_EMULATOR", &emulator(&tools));
 }
 
-/// The program, from the C file and the archive.
-fn built(own: &Path, here: &Path, out: &Path, archive: &Path) -> PathBuf {
+/// The archive of a crate.
+fn archive(here: &Path, name: &str) -> PathBuf {
+    let archive = here.join(format!("../../target/staticlib/lib{name}.a"));
+    println!("cargo:rerun-if-changed={}", archive.display());
+    if !archive.exists() {
+        fail(&format!(
+            "target/staticlib/lib{name}.a is missing; this makes it: rt staticlib {name}"
+        ));
+    }
+    archive
+}
+
+/// The program, from the C file and the archives.
+fn built(own: &Path, here: &Path, out: &Path, archives: &[PathBuf]) -> PathBuf {
     list_functions(&out.join("functions.inc"));
     let object = out.join("caller.o");
     let program = out.join("caller");
@@ -56,7 +65,8 @@ fn built(own: &Path, here: &Path, out: &Path, archive: &Path) -> PathBuf {
         ]));
     run(Command::new(own.join("bin/rattle-link"))
         .args(["--target", TARGET, "--toolchain"])
-        .args([&tools, Path::new("-o"), &program, &object, archive]));
+        .args([&tools, Path::new("-o"), &program, &object])
+        .args(archives));
     program
 }
 

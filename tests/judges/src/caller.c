@@ -1,7 +1,8 @@
-// The x86-64 program around the archive of `crates/judged`. The archive holds x86-64 code only, and a Rust
-// test may be built for another processor, so the test does not link it: it starts this program, under an
-// emulator where one is needed, and asks it over its standard input and output. Everything that a proved
-// function is lent lies in one arena here. The words are 64 bits, the lowest byte first:
+// The x86-64 program around the archives of `crates/judged` and `crates/judged_messages`. They hold x86-64
+// code only, and a Rust test may be built for another processor, so the test does not link them: it starts
+// this program, under an emulator where one is needed, and asks it over its standard input and output.
+// Everything that a proved function is lent lies in one arena here. The words are 64 bits, the lowest byte
+// first:
 //
 //   at the start it says               the address of the arena
 //   1 COUNT (FUNCTION ARGUMENT*24)*    calls the functions in turn, and answers what each returned

@@ -1,6 +1,6 @@
-// The functions of `crates/judged` that can be called, without their prefix `tagshards_judged_`. This list
-// is read twice: by build.rs, which makes the table of src/caller.c of it, and by src/library.rs, which
-// finds a function's number in it. A function that is not in the archive fails the link.
+// The functions of `crates/judged` and `crates/judged_messages` that can be called, without their prefix
+// `tagshards_judged_`. This list is read twice: by build.rs, which makes the table of src/caller.c of it, and
+// by src/library.rs, which finds a function's number in it. A function that is in no archive fails the link.
 pub const FUNCTIONS: &[&str] = &[
     "map_start",
     "map_owner",
@@ -18,4 +18,12 @@ pub const FUNCTIONS: &[&str] = &[
     "table_pick",
     "table_replace",
     "table_valid",
+    "parse",
+    "row",
+    "ack",
+    "get",
+    "set",
+    "reply",
+    "redirect",
+    "shard",
 ];

@@ -219,8 +219,14 @@ impl Column {
 
     /// The first elements alone, to lend less than there is.
     pub fn first(self, len: usize) -> Column {
-        assert!(len <= self.len);
-        Column { len, ..self }
+        self.part(0, len)
+    }
+
+    /// Some of the elements alone.
+    pub fn part(self, from: usize, len: usize) -> Column {
+        assert!(from <= self.len && len <= self.len - from);
+        let at = self.at + from * self.size;
+        Column { at, len, ..self }
     }
 }
 

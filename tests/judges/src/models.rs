@@ -1,3 +1,4 @@
 //! What each layer should do, written as plainly as can be and with nothing of the proved code.
 pub mod map;
+pub mod messages;
 pub mod table;
