@@ -20,7 +20,7 @@ pub extern "C" fn tagshards_judged_set(
     v: &[u8],
     d: &mut [u8],
 ) -> u64 {
-    code::written(composing::set(n, to, key, some, v, d))
+    code::written(answering::set(n, to, key, some, v, d))
 }
 
 #[no_mangle]
@@ -32,7 +32,7 @@ pub extern "C" fn tagshards_judged_reply(
     v: &[u8],
     d: &mut [u8],
 ) -> u64 {
-    code::written(composing::reply(n, to, key, some, v, d))
+    code::written(answering::reply(n, to, key, some, v, d))
 }
 
 #[no_mangle]
@@ -43,7 +43,7 @@ pub extern "C" fn tagshards_judged_redirect(
     address: &[u8],
     d: &mut [u8],
 ) -> u64 {
-    code::written(composing::redirect(n, to, key, address, d))
+    code::written(directing::redirect(n, to, key, address, d))
 }
 
 #[no_mangle]
@@ -59,5 +59,25 @@ pub extern "C" fn tagshards_judged_shard(
 ) -> u64 {
     let low = code::bound(lo_end, lo);
     let high = code::bound(hi_end, hi);
-    code::written(composing::shard(n, to, low, high, address, d))
+    code::written(directing::shard(n, to, low, high, address, d))
+}
+
+#[no_mangle]
+pub extern "C" fn tagshards_judged_delegate(
+    n: u64,
+    to: &[u8],
+    lo_end: bool,
+    lo: u64,
+    hi_end: bool,
+    hi: u64,
+    keys: &[u64],
+    ats: &[u64],
+    lens: &[u64],
+    m: usize,
+    bytes: &[u8],
+    d: &mut [u8],
+) -> u64 {
+    let low = code::bound(lo_end, lo);
+    let high = code::bound(hi_end, hi);
+    code::written(delegating::delegate(n, to, low, high, keys, ats, lens, m, bytes, d))
 }

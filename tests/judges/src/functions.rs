@@ -26,4 +26,5 @@ pub const FUNCTIONS: &[&str] = &[
     "reply",
     "redirect",
     "shard",
+    "delegate",
 ];

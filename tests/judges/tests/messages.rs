@@ -113,14 +113,13 @@ fn the_documents_datagrams() {
         assert_eq!(hex(&written(&datagram)), hex(&bytes), "written: {name}");
         assert_eq!(read(&bytes), Some(datagram.clone()), "read: {name}");
         judge.add(bytes.clone());
-        if let Some((answer, found)) = writer.write(&datagram, bytes.len()) {
-            assert_eq!(
-                hex(&found),
-                hex(&bytes),
-                "written by the proved code: {name}"
-            );
-            assert_eq!(answer, Written::Bytes(bytes.len()), "{name}");
-        }
+        let (answer, found) = writer.write(&datagram, bytes.len());
+        assert_eq!(
+            hex(&found),
+            hex(&bytes),
+            "written by the proved code: {name}"
+        );
+        assert_eq!(answer, Written::Bytes(bytes.len()), "{name}");
     }
     judge.end();
     assert_eq!(judge.accepted(), 4);
@@ -207,12 +206,10 @@ fn random_datagrams() {
 }
 
 /// Writes the datagram into so much room by the proved code, and holds the answer and the room to what should be
-/// there. Answers whether there is a writer of its kind.
-fn check_write(writer: &mut Writer, datagram: &Datagram, room: usize) -> bool {
+/// there.
+fn check_write(writer: &mut Writer, datagram: &Datagram, room: usize) {
     let bytes = written(datagram);
-    let Some((answer, found)) = writer.write(datagram, room) else {
-        return false;
-    };
+    let (answer, found) = writer.write(datagram, room);
     let at = format!("room for {room} of {}: {}", bytes.len(), hex(&bytes));
     let mut want = before(room);
     match (read(&bytes).is_some(), bytes.len() <= room) {
@@ -229,7 +226,6 @@ fn check_write(writer: &mut Writer, datagram: &Datagram, room: usize) -> bool {
         let [found, want] = [found[place], want[place]];
         panic!("{answer:?}, byte {place} is {found:02x} instead of {want:02x}; {at}");
     }
-    true
 }
 
 /// Exactly enough room, more, and less; what is written is what both readers read.
@@ -244,12 +240,11 @@ fn written_datagrams() {
             0..=SMALL => (0..len + 4).collect(),
             _ => vec![0, 1, 17, len / 2, len - 1, len, len + 1, len + 40],
         };
-        let check = |room| check_write(&mut writer, &datagram, room);
-        let checked = rooms.into_iter().map(check).filter(|there| *there).count();
-        if 0 < checked {
-            judge.add(bytes);
+        writes += rooms.len();
+        for room in rooms {
+            check_write(&mut writer, &datagram, room);
         }
-        writes += checked;
+        judge.add(bytes);
     }
     writer.library.check_guards();
     judge.end();
@@ -257,27 +252,25 @@ fn written_datagrams() {
     assert!(2000 < writes, "{writes} written or refused");
 }
 
-/// An address that is too long is refused for that wherever there is room, and nothing is written.
+/// An address or a list that is too long and keys that do not rise are refused for that wherever there is room, and
+/// nothing is written.
 #[test]
 fn datagrams_that_may_not_be_written() {
     let mut writer = Writer::default();
-    let mut refused = 0;
     for (_, datagram) in samples::unsendable() {
         let len = written(&datagram).len();
         let rooms = [0, 25, len - 1, len, len + 1, len + 100];
-        let checked = rooms.map(|room| check_write(&mut writer, &datagram, room));
-        refused += checked.iter().filter(|checked| **checked).count();
+        for room in rooms {
+            check_write(&mut writer, &datagram, room);
+        }
     }
     writer.library.check_guards();
-    println!("{refused} refused");
-    assert!(18 <= refused, "{refused} refused");
 }
 
 #[test]
 fn random_datagrams_written() {
     let mut writer = Writer::default();
     let mut draw = Draw::new(2);
-    let mut writes = 0;
     for _ in 0..10_000 {
         let datagram = drawn::datagram(&mut draw);
         let len = written(&datagram).len();
@@ -286,9 +279,7 @@ fn random_datagrams_written() {
             1 => len,
             _ => len + draw.below(30),
         };
-        writes += usize::from(check_write(&mut writer, &datagram, room));
+        check_write(&mut writer, &datagram, room);
     }
     writer.library.check_guards();
-    println!("{writes} written or refused");
-    assert!(8000 < writes, "{writes} written or refused");
 }
