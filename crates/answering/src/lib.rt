@@ -4,7 +4,8 @@ use format::WIDTH;
 use fronts::Start;
 use message::Written;
 ghost use Rattle.format.specs.Format.{number, maybe, pair};
-ghost use Rattle.fronts.specs.Front.{AfterFields, given};
+ghost use Rattle.fronts.specs.Front.{AfterFields};
+ghost use Rattle.options.specs.Given.{given};
 ghost use Rattle.message.specs.Message.{message, set, reply};
 ghost use Rattle.message.specs.Table.{value};
 ghost use Rattle.message.specs.Answers.{AfterWrite};
@@ -25,12 +26,12 @@ pub fn reply(n: u64, to: &[u8], key: u64, some: bool, v: &[u8], d: &mut [u8]) ->
 fn keyed(kind: u8, n: u64, to: &[u8], key: u64, some: bool, v: &[u8], d: &mut [u8]) -> Written
     ensures { λ r. ⌜ AfterFields (pair number (maybe value)) (key, given some (now (v .entry))) n (now (to .entry)) kind (now (d .entry)) r (now (d .exit)) ⌝ }
 {
-    let more = WIDTH + fronts::optional_length(some, v);
+    let more = WIDTH + options::optional_length(some, v);
     let begun = fronts::begin(n, to, kind, more, d);
     match begun {
         Start::At(at) => {
             writing::number(key, d, at);
-            fronts::optional(some, v, d, at + WIDTH);
+            options::optional(some, v, d, at + WIDTH);
             Written::Bytes(at + more)
         }
         Start::NoRoom => Written::NoRoom,

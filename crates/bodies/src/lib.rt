@@ -4,9 +4,8 @@ use fields::RangeRead;
 use format::NumberRead;
 use format::TextRead;
 use format::WIDTH;
-use format::list;
-use format::list::ListRead;
 use limits::BYTES_MAX;
+use lists::ListRead;
 use message::BodyView;
 use message::ListView;
 ghost use Rattle.bodies.specs.Answers.{ReadBody, ReadFields};
@@ -95,7 +94,7 @@ fn delegate(s: &[u8], at: usize) -> BodyRead
     let RangeRead::Is(lo, hi, from) = fields::range(s, at) else {
         return BodyRead::Missing;
     };
-    let ListRead::Is(count, next) = list::list(s, from, BYTES_MAX) else {
+    let ListRead::Is(count, next) = lists::list(s, from, BYTES_MAX) else {
         return BodyRead::Missing;
     };
     let entries = ListView {

@@ -16,21 +16,11 @@ use Rattle.format.specs.Number.{width, numbers, digits}
 use Rattle.format.specs.Format.{Entry, entries, counted, rows, listing, encode, Above, Small, Good}
 use Rattle.format.specs.Place.{row}
 use Rattle.format.proofs.Numbers.{length-digits}
-use Rattle.delegating.specs.Columns.{entered, Columns, sizes, SizeCases, AfterSize}
-use Rattle.delegating.specs.declared.Size.{Size}
-
-pub size-as : {ls : List ℕ} {m : ℕ} {r q : Size} → r ≡ q → AfterSize ls m r → AfterSize ls m q
-size-as {ls} {m} e A = subst (λ (x : Size). AfterSize ls m x) e A
+use Rattle.sizes.specs.Sizes.{sizes}
+use Rattle.sizes.proofs.Laws.{sizes-step}
+use Rattle.delegating.specs.Columns.{entered, Columns}
 
 -- ---- how many there are and how many bytes they take
-
--- what is left of the sizes, once one was counted
-pub sizes-step : (ls : List ℕ) (i k : ℕ) → 0 < k → sizes ls i k ≡ width + width + getD ls i 0 + sizes ls (i + 1) (k - 1)
-sizes-step ls i zero h = absurd (omega arith)
-sizes-step ls i (suc k) h =
-    let e : suc k - 1 ≡ k = omega arith in
-    let o : i + 1 ≡ suc i = omega arith in
-    rw (e, o) refl
 
 module _ (ks ats ls bytes : List ℕ) where
   pub entered-length : (i k : ℕ) → length (entered ks ats ls bytes i k) ≡ k

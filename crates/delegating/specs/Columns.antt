@@ -5,18 +5,14 @@ use mathlib.Core.Path.{_≡_}
 use mathlib.Core.List.{List, [], _∷_}
 use Prim.Native.Nat.{ℕ, zero, suc, _+_, _≤_, _<_}
 use lib.ListN.{length, getD}
-use Rattle.limits.specs.Limits.{bytesMax}
 use Rattle.memory.specs.Bytes.{placed, part}
 use Rattle.strings.specs.Strings.{WellFormed}
-use Rattle.format.specs.Number.{width}
 use Rattle.format.specs.Format.{Entry}
 use Rattle.message.specs.Message.{Datagram}
 use Rattle.message.specs.Table.{Valid}
 use Rattle.message.specs.Answers.{WriteCases}
 use Rattle.message.specs.declared.Written.{Written}
 use Rattle.message.specs.declared.Written.the-variants.{Bytes, NoRoom, Invalid}
-use Rattle.delegating.specs.declared.Size.{Size}
-use Rattle.delegating.specs.declared.Size.the-variants.{Is, TooLong}
 
 -- the m entries from place i of the columns on
 abbrev pub entered : (ks ats ls bytes : List ℕ) → ℕ → ℕ → List Entry
@@ -28,19 +24,6 @@ entered ks ats ls bytes i (suc m) =
 pub record Columns (ks ats ls bytes : List ℕ) (m : ℕ) : Type 0 where
   pub keys : m ≤ length ks
   pub values : WellFormed ats ls m (length bytes)
-
--- the bytes that they take in a message: for each a key, a length and a value
-abbrev pub sizes : List ℕ → ℕ → ℕ → ℕ
-sizes ls i zero = 0
-sizes ls i (suc m) = width + width + getD ls i 0 + sizes ls (suc i) m
-
--- how many bytes the list of m entries takes, or that it takes too many for a message
-abbrev pub SizeCases : List ℕ → ℕ → Size → Type 0
-SizeCases ls m (Is n) = (n ≡ width + sizes ls 0 m) × (n ≤ bytesMax)
-SizeCases ls m TooLong = bytesMax < width + sizes ls 0 m
-
-pub record AfterSize (ls : List ℕ) (m : ℕ) (r : Size) : Type 0 where
-  pub is : m ≤ length ls → SizeCases ls m r
 
 -- as every message is written or refused; columns that are no list are refused as Invalid too
 abbrev pub DelegateCases : (ks ats ls bytes : List ℕ) → ℕ → Datagram → (d : List ℕ) → Written → (d′ : List ℕ) → Type 0

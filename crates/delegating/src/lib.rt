@@ -3,8 +3,8 @@
 use format::WIDTH;
 use fronts::Start;
 use keys::Bound;
-use limits::BYTES_MAX;
 use message::Written;
+use sizes::Size;
 ghost use mathlib.Core.Path.{_≡_};
 ghost use Prim.Native.Nat.{_+_, _≤_, _<_};
 ghost use lib.ListN.{length, getD};
@@ -13,13 +13,8 @@ ghost use Rattle.format.specs.Number.{width};
 ghost use Rattle.format.specs.Format.{encode, rows, listing};
 ghost use Rattle.format.specs.Place.{row};
 ghost use Rattle.message.specs.Message.{message, delegate};
-ghost use Rattle.delegating.specs.Columns.{Columns, entered, sizes, AfterSize, AfterDelegate};
-
-// The bytes of a list of entries.
-pub enum Size {
-    Is(usize),
-    TooLong,
-}
+ghost use Rattle.sizes.specs.Sizes.{sizes};
+ghost use Rattle.delegating.specs.Columns.{Columns, entered, AfterDelegate};
 
 pub fn delegate(
     n: u64,
@@ -41,47 +36,23 @@ pub fn delegate(
     if !strings::inside(ats, lens, m, bytes.len()) {
         return Written::Invalid;
     }
-    let Size::Is(total) = size_of(lens, m) else {
+    let Size::Is(total) = sizes::size_of(lens, m) else {
         return Written::Invalid;
     };
-    let low = fronts::bound_length(lo);
-    let both = low + fronts::bound_length(hi);
+    let low = options::bound_length(lo);
+    let both = low + options::bound_length(hi);
     let more = both + total;
     let begun = fronts::begin(n, to, 5, more, d);
     match begun {
         Start::At(at) => {
-            fronts::bound(lo, d, at);
-            fronts::bound(hi, d, at + low);
+            options::bound(lo, d, at);
+            options::bound(hi, d, at + low);
             list(keys, ats, lens, m, bytes, d, at + both);
             Written::Bytes(at + more)
         }
         Start::NoRoom => Written::NoRoom,
         Start::Invalid => Written::Invalid,
     }
-}
-
-// The bytes that a list of m entries takes, from the lengths of its values alone. It stops at the first
-// entry with which they are too many.
-pub fn size_of(lens: &[u64], m: usize) -> Size
-    ensures { λ r. ⌜ AfterSize (now (lens .entry)) m r ⌝ }
-{
-    if lens.len() < m {
-        return Size::TooLong;
-    }
-    let mut total = WIDTH;
-    let mut i: usize = 0;
-    while i < m {
-        let len = lens[i] as usize;
-        if BYTES_MAX - total < WIDTH + WIDTH {
-            return Size::TooLong;
-        }
-        if BYTES_MAX - total - (WIDTH + WIDTH) < len {
-            return Size::TooLong;
-        }
-        total += WIDTH + WIDTH + len;
-        i += 1;
-    }
-    Size::Is(total)
 }
 
 // The list: how many entries there are, then each.

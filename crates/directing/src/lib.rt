@@ -32,14 +32,14 @@ pub fn shard(n: u64, to: &[u8], lo: Bound, hi: Bound, address: &[u8], d: &mut [u
     if BYTES_MAX <= address.len() {
         return Written::Invalid;
     }
-    let low = fronts::bound_length(lo);
-    let both = low + fronts::bound_length(hi);
+    let low = options::bound_length(lo);
+    let both = low + options::bound_length(hi);
     let more = both + (WIDTH + address.len());
     let begun = fronts::begin(n, to, 4, more, d);
     match begun {
         Start::At(at) => {
-            fronts::bound(lo, d, at);
-            fronts::bound(hi, d, at + low);
+            options::bound(lo, d, at);
+            options::bound(hi, d, at + low);
             writing::text(address, d, at + both);
             Written::Bytes(at + more)
         }

@@ -4,9 +4,9 @@
 use mathlib.Core.Path.{_≡_, refl, sym, ap, _∙_, pathJ}
 use mathlib.Core.List.{List, [], _∷_, _++_, append-assoc, append-nil, head-eq-of-cons-eq, tail-eq-of-cons-eq}
 use mathlib.Core.Option.{Option, none, some}
-use Prim.Native.Nat.{ℕ, suc, _<_}
+use Prim.Native.Nat.{ℕ, suc, _+_, _<_}
 use native.Mathlib.Omega.{arith}
-use lib.ListN.{length}
+use lib.ListN.{length, length-append}
 use Rattle.format.specs.Number.{width, numbers, digits}
 use Rattle.format.specs.Format.{Format, number, string, maybe, pair, choice, entries, Entry, Of, counted, rows, listing, encode, Small, Good}
 use Rattle.format.proofs.Numbers.{length-digits, digits-same}
@@ -95,3 +95,7 @@ injective f v w p q e = clear f v w p q [] [] (ap (λ (l : List ℕ). l ++ []) e
 -- no encoding begins another: if one goes on as the other, the values are equal and nothing goes on
 pub no-prefix : (f : Format) (v w : Of f) → Good f v → Good f w → (rest : List ℕ) → encode f v ++ rest ≡ encode f w → (v ≡ w) × (rest ≡ [])
 no-prefix f v w p q rest e = clear f v w p q rest [] (e ∙ sym (append-nil (encode f w)))
+
+-- the bytes that a byte string takes
+pub length-counted : (s : List ℕ) → length (counted s) ≡ width + length s
+length-counted s = length-append (digits width (length s)) s ∙ ap (λ (n : ℕ). n + length s) (length-digits width (length s))

@@ -12,6 +12,7 @@ use Rattle.memory.proofs.Parts.{length-placed, placed-then}
 use Rattle.format.specs.Number.{width, numbers, digits}
 use Rattle.format.specs.Format.{Format, Of, counted, encode, Good}
 use Rattle.format.proofs.Numbers.{length-digits}
+use Rattle.format.proofs.Clear.{length-counted}
 use Rattle.message.specs.Message.{Body, message}
 use Rattle.message.specs.Table.{bodies, fields, body, bodyValue, datagramValue, datagram, written, Valid}
 use Rattle.message.specs.Answers.{AfterWrite, WriteCases}
@@ -24,9 +25,6 @@ use Rattle.fronts.specs.declared.Start.the-variants.{At, NoRoom as NoRoo
 pub start-as : {n : ℕ} {to : List ℕ} {t more : ℕ} {d : List ℕ} {r q : Start} {d′ : List ℕ} → r ≡ q → AfterStart n to t more d r d′
     → AfterStart n to t more d q d′
 start-as {n} {to} {t} {more} {d} {r} {q} {d′} e A = subst (λ (x : Start). AfterStart n to t more d x d′) e A
-
-pub length-counted : (s : List ℕ) → length (counted s) ≡ width + length s
-length-counted s = length-append (digits width (length s)) s ∙ ap (λ (n : ℕ). n + length s) (length-digits width (length s))
 
 pub length-front : (n : ℕ) (to : List ℕ) (t : ℕ) → length (front n to t) ≡ 1 + width + width + length to + 1
 length-front n to t =

@@ -1,9 +1,7 @@
 -- A message is written in two parts: the front, which is the same for every kind, and the fields of its body.
 -- Assumes nothing.
 use mathlib.Core.Path.{_≡_}
-use mathlib.Core.Bool.{Bool, true, false}
 use mathlib.Core.List.{List, [], _∷_, _++_}
-use mathlib.Core.Option.{Option, none, some}
 use Prim.Native.Nat.{ℕ, _+_, _≤_, _<_}
 use lib.ListN.{length}
 use Rattle.limits.specs.Limits.{bytesMax}
@@ -18,11 +16,6 @@ use Rattle.fronts.specs.declared.Start.the-variants.{At, NoRoom as NoRoo
 -- the byte of a Message, its number and destination, and the byte t of its body
 abbrev pub front : ℕ → List ℕ → ℕ → List ℕ
 front n to t = ((0 ∷ digits width n) ++ counted to) ++ (t ∷ [])
-
--- a value that is there, or none
-abbrev pub given : Bool → List ℕ → Option (List ℕ)
-given true v = some v
-given false v = none
 
 -- the front is written and leaves room for `more` bytes, or it all does not fit, or the destination is too long
 abbrev pub StartCases : ℕ → List ℕ → ℕ → ℕ → (d : List ℕ) → Start → (d′ : List ℕ) → Type 0

@@ -1,6 +1,5 @@
 // The readers: a datagram, and an entry of a list at a place of it.
 use super::view;
-use format::list;
 
 #[no_mangle]
 pub extern "C" fn tagshards_judged_parse(s: &[u8], which: u64) -> u64 {
@@ -9,5 +8,5 @@ pub extern "C" fn tagshards_judged_parse(s: &[u8], which: u64) -> u64 {
 
 #[no_mangle]
 pub extern "C" fn tagshards_judged_row(s: &[u8], at: usize, which: u64) -> u64 {
-    view::row_word(list::row(s, at), which)
+    view::row_word(lists::row(s, at), which)
 }

@@ -11,8 +11,8 @@
 //
 // What a kind does not have is 0.
 use format::Part;
-use format::list::RowRead;
 use keys::Bound;
+use lists::RowRead;
 use message::BodyView;
 use message::Parsed;
 use message::ValueView;

@@ -6,7 +6,7 @@ use native.Mathlib.Omega.{arith}
 use borrow.Author.Needs.{needs}
 use Rattle.bodies.proofs.delegate.Statement.{statement}
 use Rattle.bodies.proofs.delegate.Tie as tie
-use Rattle.format.proofs.Answers.{list-as}
+use Rattle.lists.proofs.Answers.{list-as}
 use Rattle.format.proofs.Reading.{pair-found, pair-first, pair-second}
 use Rattle.fields.proofs.Answers.{range-as}
 

@@ -17,8 +17,10 @@ use Rattle.format.specs.Format.{Entry, number, maybe, pair, entries, listing, e
 use Rattle.message.specs.Message.{delegate}
 use Rattle.message.specs.Table.{range, keyOf}
 use Rattle.fronts.proofs.Fronts.{start-as, start-length, fields-written, fields-no-room, message-written}
-use Rattle.delegating.specs.Columns.{entered, sizes, Columns}
-use Rattle.delegating.proofs.Entered.{size-as, listing-size, entered-good, entered-long, above-rising}
+use Rattle.delegating.specs.Columns.{entered, Columns}
+use Rattle.sizes.specs.Sizes.{sizes}
+use Rattle.delegating.proofs.Entered.{listing-size, entered-good, entered-long, above-rising}
+use Rattle.sizes.proofs.Laws.{size-as}
 
 -- the bytes of the bounds and the list
 long : (lo hi : Bound) (l : List Entry) (x y z : ℕ) → x ≡ length (encode (maybe number) (keyOf lo)) → y ≡ length (encode (maybe number) (keyOf hi))

@@ -11,7 +11,8 @@ use Rattle.delegating.proofs.entries.Tie as tie
 use Rattle.memory.specs.Bytes.{placed, part}
 use Rattle.memory.proofs.Parts.{placed-nil}
 use Rattle.format.specs.Format.{rows}
-use Rattle.delegating.specs.Columns.{entered, sizes}
+use Rattle.delegating.specs.Columns.{entered}
+use Rattle.sizes.specs.Sizes.{sizes}
 use Rattle.delegating.proofs.Entered.{value-length, entry-fits, more-length, more-fits, more-is}
 
 -- the part of the bytes that a value is, as code takes it

@@ -12,7 +12,7 @@ use Rattle.memory.proofs.Copies.{copied-then}
 use Rattle.format.specs.Number.{width, digits}
 use Rattle.format.specs.Format.{counted}
 use Rattle.format.proofs.Numbers.{length-digits}
-use Rattle.fronts.proofs.Fronts.{length-counted}
+use Rattle.format.proofs.Clear.{length-counted}
 
 number-requires : tie.Need-number-requires
 number-requires c κs = search needs

@@ -10,7 +10,7 @@ use Rattle.delegating.proofs.list.Tie as tie
 use Rattle.memory.proofs.Parts.{length-placed}
 use Rattle.format.specs.Number.{width, digits}
 use Rattle.format.proofs.Numbers.{length-digits}
-use Rattle.delegating.specs.Columns.{sizes}
+use Rattle.sizes.specs.Sizes.{sizes}
 use Rattle.delegating.proofs.Entered.{listing-put}
 
 -- the count leaves room for the entries

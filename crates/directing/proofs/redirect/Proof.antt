@@ -14,7 +14,8 @@ use Rattle.format.proofs.Numbers.{length-digits}
 use Rattle.memory.proofs.Copies.{copied-then}
 use Rattle.message.specs.Message.{redirect}
 use Rattle.message.specs.Table.{address}
-use Rattle.fronts.proofs.Fronts.{start-as, start-length, length-counted, fields-written, fields-no-room, fields-no-address, message-written}
+use Rattle.fronts.proofs.Fronts.{start-as, start-length, fields-written, fields-no-room, fields-no-address, message-written}
+use Rattle.format.proofs.Clear.{length-counted}
 
 -- the bytes of the key and the address
 long : (k : ℕ) (v : List ℕ) → width + (width + length v) ≡ length (encode (pair number address) (k, v))

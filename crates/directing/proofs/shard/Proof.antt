@@ -14,7 +14,8 @@ use Rattle.memory.proofs.Copies.{copied-then}
 use Rattle.message.specs.Message.{shard}
 use Rattle.message.specs.Table.{range, address, keyOf}
 use Rattle.keys.specs.declared.Bound.{Bound}
-use Rattle.fronts.proofs.Fronts.{start-as, start-length, length-counted, fields-written, fields-no-room, fields-no-address, message-written}
+use Rattle.fronts.proofs.Fronts.{start-as, start-length, fields-written, fields-no-room, fields-no-address, message-written}
+use Rattle.format.proofs.Clear.{length-counted}
 
 -- the bytes of the bounds and the address
 long : (lo hi : Bound) (v : List ℕ) (x y : ℕ) → x ≡ length (encode (maybe number) (keyOf lo)) → y ≡ length (encode (maybe number) (keyOf hi))

@@ -9,7 +9,8 @@ use lib.ListN.{length, length-append}
 use Rattle.fronts.proofs.begin.Statement.{statement}
 use Rattle.fronts.proofs.begin.Tie as tie
 use Rattle.memory.proofs.Copies.{copied-then}
-use Rattle.fronts.proofs.Fronts.{length-counted, length-front}
+use Rattle.fronts.proofs.Fronts.{length-front}
+use Rattle.format.proofs.Clear.{length-counted}
 use Rattle.format.specs.Number.{width, digits}
 use Rattle.format.specs.Format.{counted}
 use Rattle.format.proofs.Numbers.{length-digits}
