@@ -13,3 +13,11 @@ bytesMax = 0x100000
 -- a transfer has fewer entries than this
 abbrev pub entriesLimit : ℕ
 entriesLimit = 62
+
+-- the count of transfers is below this
+abbrev pub transfersLimit : ℕ
+transfersLimit = 0x7fffffffffffffff
+
+-- retransmission acts on every so many of its turns
+abbrev pub resendEvery : ℕ
+resendEvery = 100_000_000

@@ -10,3 +10,9 @@ pub const BYTES_MAX: usize = 1048576;
 
 // A transfer has fewer entries than this: document 01, section 5, drops "62 or more entries".
 pub const ENTRIES_LIMIT: usize = 62;
+
+// The count of transfers is below this: document 01, section 5.
+pub const TRANSFERS_LIMIT: u64 = 9223372036854775807;
+
+// Retransmission acts on every so many of its turns: document 01, section 5.
+pub const RESEND_EVERY: u64 = 100000000;

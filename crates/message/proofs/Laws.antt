@@ -16,7 +16,7 @@ use Rattle.format.specs.Format.{Of, Entry, counted, rows, listing}
 use Rattle.format.proofs.Numbers.{length-digits}
 use Rattle.format.proofs.Clear.{injective, no-prefix}
 use Rattle.message.specs.Message.{Body, get, set, reply, redirect, shard, delegate, Datagram, message, ack}
-use Rattle.message.specs.Table.{fields, parts, body, datagram, keyOf, bodyValue, datagramValue, written, Valid}
+use Rattle.message.specs.Table.{datagram, keyOf, bodyValue, datagramValue, boundOf, bodyIs, datagramIs, written, Valid}
 use Rattle.message.specs.View.{bytesOf, bodyOf}
 use Rattle.message.specs.Answers.{AfterParse, AfterWrite}
 use Rattle.message.specs.declared.Parsed.{Parsed}
@@ -25,26 +25,11 @@ use Rattle.message.specs.declared.Written.the-variants.{Bytes}
 
 -- ---- a message is told by the value that is written
 
-boundOf : Option ℕ → Bound
-boundOf none = End
-boundOf (some k) = Key k
-
 same-bound : (b : Bound) → boundOf (keyOf b) ≡ b
-unfolding boundOf
 same-bound (Key k) = refl
 same-bound End = refl
 
-bodyIs : (t : ℕ) → Of (fields t) → Body
-bodyIs zero k = get k
-bodyIs (suc zero) v = set (v .0) (v .1)
-bodyIs (suc (suc zero)) v = reply (v .0) (v .1)
-bodyIs (suc (suc (suc zero))) v = redirect (v .0) (v .1)
-bodyIs (suc (suc (suc (suc zero)))) v = shard (boundOf (v .0 .0)) (boundOf (v .0 .1)) (v .1)
-bodyIs (suc (suc (suc (suc (suc zero))))) v = delegate (boundOf (v .0 .0)) (boundOf (v .0 .1)) (v .1)
-bodyIs (suc (suc (suc (suc (suc (suc t)))))) v = get v
-
 same-body : (b : Body) → bodyIs (bodyValue b .0) (bodyValue b .1) ≡ b
-unfolding bodyIs
 same-body (get k) = refl
 same-body (set k v) = refl
 same-body (reply k v) = refl
@@ -52,13 +37,7 @@ same-body (redirect k a) = refl
 same-body (shard lo hi a) = λ i. shard (same-bound lo i) (same-bound hi i) a
 same-body (delegate lo hi l) = λ i. delegate (same-bound lo i) (same-bound hi i) l
 
-datagramIs : (t : ℕ) → Of (parts t) → Datagram
-datagramIs zero v = message (v .0) (v .1 .0) (bodyIs (v .1 .1 .0) (v .1 .1 .1))
-datagramIs (suc zero) n = ack n
-datagramIs (suc (suc t)) n = ack n
-
-same-datagram : (m : Datagram) → datagramIs (datagramValue m .0) (datagramValue m .1) ≡ m
-unfolding datagramIs
+pub same-datagram : (m : Datagram) → datagramIs (datagramValue m .0) (datagramValue m .1) ≡ m
 same-datagram (message n a b) = ap (message n a) (same-body b)
 same-datagram (ack n) = refl
 

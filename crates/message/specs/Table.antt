@@ -4,7 +4,7 @@
 use mathlib.Core.Path.{_≡_}
 use mathlib.Core.List.{List, [], _∷_}
 use mathlib.Core.Option.{Option, none, some}
-use Prim.Native.Nat.{ℕ}
+use Prim.Native.Nat.{ℕ, zero, suc}
 use lib.ListN.{length, getD}
 use Rattle.limits.specs.Limits.{bytesMax}
 use Rattle.keys.specs.declared.Bound.{Bound}
@@ -72,6 +72,28 @@ bodyValue (delegate lo hi l) = (5, ((keyOf lo, keyOf hi), l))
 abbrev pub datagramValue : Datagram → Of datagram
 datagramValue (message n a b) = (0, (n, (a, bodyValue b)))
 datagramValue (ack n) = (1, n)
+
+-- ---- .. and back: the message that a value of the format stands for. A byte that no row has stands for nothing; any message will do
+
+abbrev pub boundOf : Option ℕ → Bound
+boundOf none = End
+boundOf (some k) = Key k
+
+abbrev pub bodyIs : (t : ℕ) → Of (fields t) → Body
+bodyIs zero k = get k
+bodyIs (suc zero) v = set (v .0) (v .1)
+bodyIs (suc (suc zero)) v = reply (v .0) (v .1)
+bodyIs (suc (suc (suc zero))) v = redirect (v .0) (v .1)
+bodyIs (suc (suc (suc (suc zero)))) v = shard (boundOf (v .0 .0)) (boundOf (v .0 .1)) (v .1)
+bodyIs (suc (suc (suc (suc (suc zero))))) v = delegate (boundOf (v .0 .0)) (boundOf (v .0 .1)) (v .1)
+bodyIs (suc (suc (suc (suc (suc (suc t)))))) v = get v
+
+abbrev pub datagramIs : (t : ℕ) → Of (parts t) → Datagram
+datagramIs zero v = message (v .0) (v .1 .0) (bodyIs (v .1 .1 .0) (v .1 .1 .1))
+datagramIs (suc zero) n = ack n
+datagramIs (suc (suc t)) n = ack n
+
+-- ---- the bytes
 
 -- the bytes of a message
 abbrev pub written : Datagram → List ℕ
