@@ -26,8 +26,8 @@ pub enum TextRead {
     Missing,
 }
 
-// The number at a place. It compiles to one load, for all the arithmetic (looked at with `objdump -d` in
-// a static library that exports a call of this function).
+// The number at a place. It compiles to one load of eight bytes, for all the arithmetic (looked at with
+// `llvm-objdump -dr` in the static library of `judged_messages`, where it stands in line).
 pub fn number(s: &[u8], at: usize) -> NumberRead
     ensures { λ r. ⌜ ReadNumber (now (s .entry)) at r ⌝ }
 {

@@ -19,8 +19,8 @@ pub fn byte(b: u8, d: &mut [u8], at: usize) -> bool
     true
 }
 
-// A number, lowest byte first. It compiles to one store (looked at with `objdump -d` in a static library
-// that exports a call of this function).
+// A number, lowest byte first. It compiles to one store of eight bytes (looked at with `llvm-objdump -dr`
+// in the static library of `judged_messages`, where it stands in line).
 pub fn number(n: u64, d: &mut [u8], at: usize) -> bool
     ensures { λ r. ⌜ Copied (digits width n) (now (d .entry)) at r (now (d .exit)) ⌝ }
 {
