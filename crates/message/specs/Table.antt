@@ -26,7 +26,8 @@ value = string numbers
 abbrev pub range : Format
 range = pair (maybe number) (maybe number)
 
--- ---- the bodies, by their byte
+-- ---- the bodies, by their byte: 0 Get (key), 1 Set and 2 Reply (key, maybe value), 3 Redirect (key, address), 4 Shard (lo, hi, address),
+-- 5 Delegate (lo, hi, list of entries)
 
 abbrev pub bodies : List Format
 bodies =
@@ -44,7 +45,7 @@ fields t = getD bodies t number
 abbrev pub body : Format
 body = choice (length bodies) fields
 
--- ---- the datagrams, by their byte
+-- ---- the datagrams, by their byte: 0 Message (number, destination, body), 1 Ack (number)
 
 abbrev pub datagrams : List Format
 datagrams = pair number (pair address body) ∷ number ∷ []

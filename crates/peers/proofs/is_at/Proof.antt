@@ -1,0 +1,56 @@
+-- `peers::is_at` meets its contract.
+-- Assumes nothing.
+use mathlib.Core.Path.{_≡_, refl, sym, _∙_}
+use mathlib.Core.List.{List}
+use Prim.Native.Nat.{ℕ, _+_, _-_, _*_}
+use native.Mathlib.Omega.{arith}
+use borrow.Author.Needs.{needs}
+use lib.ListN.{take, drop}
+use Rattle.peers.proofs.is_at.Statement.{statement}
+use Rattle.peers.proofs.is_at.Tie as tie
+use mathlib.Core.Bool.{false≢true}
+use Rattle.memory.specs.Bytes.{part}
+
+-- the part of the bytes that an address is, as code takes it
+cut : (bytes : List ℕ) (a n : ℕ) → take (a + n - a) (drop a bytes) ≡ part bytes a n
+cut bytes a n = let e : a + n - a ≡ n = omega arith in rw e refl
+
+returns : tie.Need-returns
+returns c = record { yes = λ e. absurd (false≢true e); no = λ e h q. omega (arith, c .if1 .taken, h) }
+
+mul-from : tie.Need-mul-from
+mul-from c = omega (arith, c .before .before .before .pre, c .before .before .before .fits, c .before .before .before .good)
+
+add-to : tie.Need-add-to
+add-to c = omega (arith, c .if1 .left, c .before .before .before .pre, c .before .before .before .fits, c .before .before .before .good)
+
+sub-same : tie.Need-sub-same
+sub-same c = search needs
+
+part-same-start : tie.Need-part-same-start
+part-same-start c = omega arith
+
+part-same-end : tie.Need-part-same-end
+part-same-end c = omega (arith, c .if1 .left, c .before .before .before .pre)
+
+same-requires : tie.Need-same-requires
+same-requires c κs = search needs
+
+returns-2 : tie.Need-returns-2
+returns-2 c =
+    let a = c .before .before .before .before .before .args in
+    let e = cut (a .names .now) (a .i * a .width) (a .len) in
+    record { yes = λ t. (c .before .before .if1 .left, sym e ∙ c .same .ensures .yes t); no = λ t h q. c .same .ensures .no t (e ∙ q) }
+
+pub is-at-spec : {M : Type 1} → statement M
+is-at-spec =
+    tie.close
+    (tie.spec
+    returns
+    mul-from
+    add-to
+    sub-same
+    part-same-start
+    part-same-end
+    same-requires
+    returns-2)

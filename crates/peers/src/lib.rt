@@ -1,0 +1,84 @@
+// Addresses to small numbers, in lent memory: `names` has the addresses at a stride of `width` bytes, and
+// `lens` how long each is; the first n count. A peer's number never changes. What memory keeps, and what
+// each answer says, stands in specs/Names.antt; nothing is asked of a caller.
+ghost use mathlib.Core.Path.{_≡_};
+ghost use Prim.Native.Nat.{min, _+_, _*_, _/_, _≤_, _<_};
+ghost use lib.ListN.{length};
+ghost use Rattle.peers.specs.Names.{Standing, AfterFind, AfterAdd};
+
+// The number of an address.
+pub enum Peer {
+    Is(usize),
+    Unknown,
+}
+
+// The number that an address got, or why it got none.
+pub enum Added {
+    At(usize),
+    Full,
+    TooLong,
+}
+
+// Which peer has that address? The peers are looked through from the front.
+pub fn find(lens: &[u64], names: &[u8], width: usize, n: usize, address: &[u8]) -> Peer
+    ensures { λ r. ⌜ AfterFind (now (lens .entry)) (now (names .entry)) width n (now (address .entry)) r ⌝ }
+{
+    let end = within(n, room(lens.len(), names.len(), width));
+    let mut i: usize = 0;
+    while i < end {
+        let len = lens[i] as usize;
+        if is_at(names, width, i, len, address) {
+            return Peer::Is(i);
+        }
+        i += 1;
+    }
+    Peer::Unknown
+}
+
+// Does that address stand at place i, where it would be so long?
+fn is_at(names: &[u8], width: usize, i: usize, len: usize, address: &[u8]) -> bool
+    requires { ⌜ i * width + width ≤ length (now names) ⌝ }
+    ensures { λ r. ⌜ Standing (now (names .entry)) width i len (now (address .entry)) r ⌝ }
+{
+    if width < len {
+        return false;
+    }
+    let from = i * width;
+    let to = from + len;
+    memory::same(&names[from..to], address)
+}
+
+// The next number for an address that no peer has.
+pub fn add(lens: &mut [u64], names: &mut [u8], width: usize, n: usize, address: &[u8]) -> Added
+    ensures { λ r. ⌜ AfterAdd (now (lens .entry)) (now (names .entry)) width n (now (address .entry)) r (now (lens .exit)) (now (names .exit)) ⌝ }
+{
+    if width < address.len() {
+        return Added::TooLong;
+    }
+    if room(lens.len(), names.len(), width) <= n {
+        return Added::Full;
+    }
+    lens[n] = address.len() as u64;
+    memory::copy(address, names, n * width);
+    Added::At(n)
+}
+
+// How many addresses so many lengths and bytes have room for.
+fn room(lens: usize, names: usize, width: usize) -> usize
+    ensures { λ r. ⌜ (0 < width → r ≡ min lens (names / width)) × (r ≤ lens) × (r * width ≤ names) ⌝ }
+{
+    if width == 0 {
+        return 0;
+    }
+    within(lens, names / width)
+}
+
+// The smaller of the two.
+fn within(a: usize, b: usize) -> usize
+    ensures { λ r. ⌜ (r ≡ min a b) × (r ≤ a) × (r ≤ b) ⌝ }
+{
+    if b < a {
+        return b;
+    }
+    a
+}
