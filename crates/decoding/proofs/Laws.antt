@@ -13,7 +13,11 @@ use borrow.Author.Tests.{ne-eqb}
 use Rattle.format.specs.Number.{width, numbers, digits, worth}
 use Rattle.format.specs.Format.{Format, number, string, maybe, pair, choice, entries, Entry, Of, counted, rows, listing, encode, Small, Good}
 use Rattle.format.proofs.Numbers.{length-digits, worth-is}
-use Rattle.message.specs.Message.{Datagram}
+use Rattle.message.specs.Message.{Datagram, message, ack}
+use Rattle.message.specs.View.{bytesOf, bodyOf}
+use Rattle.message.specs.Answers.{AfterParse}
+use Rattle.message.specs.declared.Parsed.{Parsed}
+use Rattle.message.specs.declared.Parsed.the-variants.{Message, Ack, Invalid}
 use Rattle.message.specs.Table.{datagram, datagramValue, datagramIs, written, Valid}
 use Rattle.message.proofs.Laws.{same-datagram}
 use Rattle.decoding.specs.Decode.{same, good, bind, entryAnd, listOf, valueOf, taken, checked, read}
@@ -126,3 +130,21 @@ read-some s m e = go (valueOf datagram s) e
 -- where nothing is read, no message is written as those bytes
 pub read-none : (s : List ℕ) → read s ≡ none → (m : Datagram) → Valid m → written m ≡ s → ⊥
 read-none s e m h w = Option·none-ne-some m (sym e ∙ ap read (sym w) ∙ read-written m h)
+
+-- ---- `parsing::parse` agrees
+
+-- the message that an answer describes
+abbrev pub answered : List ℕ → Parsed → Option Datagram
+answered s (Message n a b) = some (message n (bytesOf s a) (bodyOf s b))
+answered s (Ack n) = some (ack n)
+answered s Invalid = none
+
+pub parse-reads : (s : List ℕ) (r : Parsed) → AfterParse s r → read s ≡ answered s r
+parse-reads s (Message n a b) A =
+    ap read (sym (A .is .1)) ∙ read-written (message n (bytesOf s a) (bodyOf s b)) (A .is .0)
+parse-reads s (Ack n) A = ap read (sym (A .is .1)) ∙ read-written (ack n) (A .is .0)
+parse-reads s Invalid A = go (read s) refl
+  where
+    go : (o : Option Datagram) → read s ≡ o → o ≡ none
+    go none e = refl
+    go (some m) e = let u = read-some s m e in absurd (A .is m (u .0) (u .1))

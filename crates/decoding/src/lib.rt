@@ -1,2 +1,2 @@
-// The message that bytes are, as a function that computes. There is no code here: the steps of the host
-// are defined with it, and the code reads with `parsing::parse`, which answers the same.
+// The message that bytes are, as a function that computes, with which the host's steps are defined. There
+// is no code here: code reads with `parsing::parse`, and the law `parse-reads` says that both agree.

@@ -5,11 +5,10 @@ use mathlib.Core.Logic.{⊎-elim}
 use mathlib.Core.List.{List, [], _∷_, _++_}
 use Prim.Native.Nat.{ℕ, zero, suc, _+_, _-_, _≤_, _<_}
 use native.Mathlib.Omega.{arith}
-use lib.ListN.{length, drop, getD, length-append, length-drop}
-use lib.Seq.{length-take-le}
+use lib.ListN.{length, getD, length-append}
 use Rattle.limits.specs.Limits.{bytesMax}
 use Rattle.memory.specs.Bytes.{placed, part}
-use Rattle.memory.proofs.Parts.{length-placed, placed-then}
+use Rattle.memory.proofs.Parts.{length-placed, placed-then, length-part}
 use Rattle.columns.specs.Column.{Rising}
 use Rattle.columns.proofs.Cases.{lt-or-ge}
 use Rattle.format.specs.Number.{width, numbers, digits}
@@ -41,8 +40,7 @@ module _ (ks ats ls bytes : List ℕ) where
 
   module _ (m : ℕ) (C : Columns ks ats ls bytes m) where
     pub value-length : (i : ℕ) → i < m → length (part bytes (getD ats i 0) (getD ls i 0)) ≡ getD ls i 0
-    value-length i h =
-        length-take-le (getD ls i 0) (drop (getD ats i 0) bytes) (omega (arith, C .values .within i h, length-drop (getD ats i 0) bytes))
+    value-length i h = length-part bytes (getD ats i 0) (getD ls i 0) (C .values .within i h)
 
     pub row-size : (i : ℕ) → i < m → length (encode row (getD ks i 0, part bytes (getD ats i 0) (getD ls i 0))) ≡ width + width + getD ls i 0
     row-size i h =

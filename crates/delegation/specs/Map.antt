@@ -4,8 +4,9 @@
 use mathlib.Core.Path.{_≡_}
 use mathlib.Core.Bool.{Bool, true, false, cond}
 use mathlib.Core.List.{List}
-use Prim.Native.Nat.{ℕ, suc, min, _^_, _≤_, _<_}
+use Prim.Native.Nat.{ℕ, suc, min, _≤_, _<_}
 use lib.ListN.{length, getD}
+use Rattle.limits.specs.Limits.{numbers}
 use Rattle.keys.specs.declared.Bound.{Bound}
 use Rattle.keys.specs.Bound.{holds}
 use Rattle.columns.specs.Column.{Rising}
@@ -72,4 +73,4 @@ pub record Left (lows owners : List ℕ) (n : ℕ) (lo hi : Bound) (v r : ℕ) :
 -- r says whether every key in the range is v's. If not, there is a key of 64 bits in the range that is not
 pub record Whole (lows owners : List ℕ) (n : ℕ) (lo hi : Bound) (v : ℕ) (r : Bool) : Type 0 where
   pub all : (f : ℕ → ℕ) → Keeps lows owners n f → r ≡ true → (k : ℕ) → holds lo hi k ≡ true → f k ≡ v
-  pub other : (f : ℕ → ℕ) → Keeps lows owners n f → r ≡ false → (k : ℕ) × (k < 2 ^ 64) × (holds lo hi k ≡ true) × (f k ≡ v → ⊥)
+  pub other : (f : ℕ → ℕ) → Keeps lows owners n f → r ≡ false → (k : ℕ) × (k < numbers) × (holds lo hi k ≡ true) × (f k ≡ v → ⊥)

@@ -8,8 +8,9 @@ use Prim.Native.Nat.{ℕ, zero, suc, _+_, _-_, _≤_, _<_}
 use native.Mathlib.Omega.{arith}
 use native.Mathlib.Numerals.{add-one}
 use lib.ListN.{length, take, drop, getD, length-append, length-drop, take-append-drop}
-use lib.Seq.{drop-cons, drop-drop, length-take-le}
+use lib.Seq.{drop-cons, drop-drop}
 use Rattle.memory.specs.Bytes.{part}
+use Rattle.memory.proofs.Parts.{length-part}
 use Rattle.format.specs.Number.{base, width, numbers, digits, worth}
 use Rattle.format.specs.Format.{Format, number, string, maybe, pair, choice, Of, counted, encode, Good}
 use Rattle.format.specs.Place.{Stands, Lacks}
@@ -47,8 +48,7 @@ module _ (s : List ℕ) (at : ℕ) where
   pub string-found : (limit : ℕ) {n : ℕ} → Stands number s at n (at + width) → n < limit → at + width + n ≤ length s
       → Stands (string limit) s at (part s (at + width) n) (at + width + n)
   string-found limit {n} k p h =
-      let q : n ≤ length (drop (at + width) s) = omega (arith, length-drop (at + width) s) in
-      let e : length (part s (at + width) n) ≡ n = length-take-le n (drop (at + width) s) q in
+      let e : length (part s (at + width) n) ≡ n = length-part s (at + width) n h in
       record {
         good = (subst (λ (m : ℕ). m < limit) (sym e) p, subst (λ (m : ℕ). m < numbers) (sym e) (k .good));
         long = omega (
@@ -88,13 +88,10 @@ module _ (s : List ℕ) (at : ℕ) where
 
   -- ---- .. with a limit, once it was read without
 
-  tall : (from n : ℕ) → from + n ≤ length s → length (part s from n) ≡ n
-  tall from n h = length-take-le n (drop from s) (omega (arith, length-drop from s))
-
   pub string-limited : {limit : ℕ} (from n : ℕ) → Stands (string numbers) s at (part s from n) (from + n) → n < limit
       → Stands (string limit) s at (part s from n) (from + n)
   string-limited {limit} from n k p = record {
-    good = (subst (λ (m : ℕ). m < limit) (sym (tall from n (k .within))) p, k .good .1);
+    good = (subst (λ (m : ℕ). m < limit) (sym (length-part s from n (k .within))) p, k .good .1);
     long = k .long;
     within = k .within;
     is = k .is;
@@ -102,7 +99,7 @@ module _ (s : List ℕ) (at : ℕ) where
 
   pub string-over : {limit : ℕ} (from n : ℕ) → Stands (string numbers) s at (part s from n) (from + n) → limit ≤ n → Lacks (string limit) s at
   string-over {limit} from n k p = record {
-    no = λ v g rest q. omega (arith, g .0, ap length (only k v (g .1, g .1) rest q .0), tall from n (k .within));
+    no = λ v g rest q. omega (arith, g .0, ap length (only k v (g .1, g .1) rest q .0), length-part s from n (k .within));
   }
 
   pub string-unlimited : {limit : ℕ} → Lacks (string numbers) s at → Lacks (string limit) s at

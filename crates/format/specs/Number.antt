@@ -3,6 +3,7 @@
 use mathlib.Core.List.{List, [], _∷_}
 use Prim.Native.Nat.{ℕ, zero, suc, _+_, _*_, _/_, _%_, _^_}
 use lib.ListN.{getD}
+pub use Rattle.limits.specs.Limits.{numbers}
 
 -- how many values a byte has
 abbrev pub base : ℕ
@@ -11,10 +12,6 @@ base = 2 ^ 8
 -- the bytes of a number
 abbrev pub width : ℕ
 width = 8
-
--- how many numbers they can tell apart
-abbrev pub numbers : ℕ
-numbers = 2 ^ 64
 
 -- the lowest k bytes of n, lowest first
 unfoldable pub digits : ℕ → ℕ → List ℕ

@@ -1,6 +1,7 @@
-// The grammar of messages, read: a number and a byte string at a place of lent bytes (document 01, section 3). The grammar itself is specs/Format.antt. A reader answers by
-// value where a part stands and how long it is; the bytes stay where they are. Whatever the bytes are,
-// each answer is exact: what is found is written there, and what is missing is written in no way.
+// The grammar of messages, read: a number and a byte string at a place of lent bytes (document 01,
+// section 3). The grammar itself is specs/Format.antt. A reader answers by value where a part stands and
+// how long it is; the bytes stay where they are. Whatever the bytes are, each answer is exact: what is
+// found is written there, and what is missing is written in no way.
 ghost use mathlib.Core.Path.{_≡_};
 ghost use Prim.Native.Nat.{_+_, _<_, _≤_, _^_};
 ghost use lib.ListN.{length};

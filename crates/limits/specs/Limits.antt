@@ -1,6 +1,6 @@
--- The numbers that the documents name, for definitions; src/lib.rt has the same numbers for code.
+-- The numbers that the documents name, for definitions; src/lib.rt has those that code uses.
 -- Assumes nothing.
-use Prim.Native.Nat.{ℕ}
+use Prim.Native.Nat.{ℕ, _^_}
 
 -- the most bytes that a value may have
 abbrev pub valueMax : ℕ
@@ -21,3 +21,7 @@ transfersLimit = 0x7fffffffffffffff
 -- retransmission acts on every so many of its turns
 abbrev pub resendEvery : ℕ
 resendEvery = 100_000_000
+
+-- numbers and keys have 64 bits: they lie below this
+abbrev pub numbers : ℕ
+numbers = 2 ^ 64

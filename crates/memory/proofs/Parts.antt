@@ -6,7 +6,7 @@ use Prim.Native.Nat.{ℕ, _+_, _-_, _≤_, _<_}
 use native.Mathlib.Omega.{arith}
 use lib.ListN.{length, take, drop, getD, length-append, length-drop, List·getD-append}
 use lib.Seq.{paste, take-paste, drop-paste, take-add, drop-drop, take-length, length-take-le, take-take, drop-append-le, take-append-le, take-at, drop-at, take-all}
-use Rattle.memory.specs.Bytes.{placed}
+use Rattle.memory.specs.Bytes.{part, placed}
 
 -- a copy of m elements and then of the n after them is the copy of m + n
 pub paste-more : (d : List ℕ) (at : ℕ) (s : List ℕ) (m n : ℕ) → at + m + n ≤ length d → m + n ≤ length s
@@ -79,3 +79,11 @@ placed-then d at a b h =
     ∙ drop-drop (length b) (at + length a) d
     ∙ ap (λ (k : ℕ). drop k d) e in
     rw (t, r) (ap (λ (x : List ℕ). x ++ drop (at + length (a ++ b)) d) (append-assoc (take at d) a b))
+
+-- a part that lies within the bytes is as long as it says
+pub length-part : (s : List ℕ) (at n : ℕ) → at + n ≤ length s → length (part s at n) ≡ n
+length-part s at n h = length-take-le n (drop at s) (omega (arith, length-drop at s))
+
+-- what code takes as `&bytes[at..at + n]` is the part of n bytes
+pub part-taken : (s : List ℕ) (at n : ℕ) → take (at + n - at) (drop at s) ≡ part s at n
+part-taken s at n = let e : at + n - at ≡ n = omega arith in rw e refl

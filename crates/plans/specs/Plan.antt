@@ -4,9 +4,10 @@
 use mathlib.Core.Path.{_≡_}
 use mathlib.Core.Bool.{Bool, true, false, not}
 use mathlib.Core.List.{List}
-use Prim.Native.Nat.{ℕ, _+_, _-_, _^_, _≤_, _<_}
+use Prim.Native.Nat.{ℕ, _+_, _-_, _≤_, _<_}
 use lib.ListN.{length, getD}
 use lib.Dec.{eqb}
+use Rattle.limits.specs.Limits.{numbers}
 use Rattle.keys.specs.declared.Bound.{Bound}
 use Rattle.keys.specs.declared.Bound.the-variants.{Key, End}
 use Rattle.keys.specs.Bound.{below}
@@ -27,7 +28,7 @@ pub record Before (lows : List ℕ) (n : ℕ) (b : Bound) (r : ℕ) : Type 0 whe
 
 -- r of the first n bounds lie at b or below it, if they rise. A bound that code is given has a key of 64 bits
 pub record Through (lows : List ℕ) (n : ℕ) (b : Bound) (r : ℕ) : Type 0 where
-  pub small : keyOf b < 2 ^ 64
+  pub small : keyOf b < numbers
   pub within : r ≤ n
   pub low : n ≤ length lows → Rising lows n → (i : ℕ) → i < r → below b (Key (getD lows i 0)) ≡ false
   pub high : n ≤ length lows → Rising lows n → (i : ℕ) → r ≤ i → i < n → below b (Key (getD lows i 0)) ≡ true

@@ -6,17 +6,18 @@ use mathlib.Core.List.{List, [], _∷_, _++_}
 use mathlib.Core.Option.{Option, none, some}
 use Prim.Native.Nat.{ℕ, zero, suc, _-_}
 use Rattle.keys.specs.declared.Bound.the-variants.{Key, End}
-use Rattle.limits.specs.Limits.{transfersLimit}
+use Rattle.limits.specs.Limits.{valueMax, transfersLimit}
 use Rattle.format.specs.Number.{numbers, digits, worth}
 use Rattle.message.specs.Message.{Address, Datagram, get, set, reply, redirect, shard, delegate, message, ack}
 use Rattle.message.specs.Table.{written}
 use Rattle.decoding.specs.Decode.{listOf, valueOf}
 use Rattle.protocol.specs.Owners.{ownerOf}
-use Rattle.protocol.specs.State.{Host, fresh, start, delivered, done}
-use Rattle.protocol.specs.Delivery.{Packet, Outcome, Step, packet, ackTo, full, invalid, elsewhere, taken, unreceived, again, future, arrived, idle, stuck, replied, redirected, dropped, unnumbered, accepted, handed, resent}
+use Rattle.protocol.specs.State.{Host, fresh, start, delivered, done, turned}
+use Rattle.protocol.specs.Delivery.{Packet, Outcome, Step, packet, ackTo, full, invalid, elsewhere, taken, unreceived, again, future, arrived, idle, stuck, replied, redirected, dropped, unnumbered, accepted, handed, resent, waits, posted}
 use Rattle.protocol.specs.Receive.{receive}
 use Rattle.protocol.specs.Process.{process}
 use Rattle.protocol.specs.Retransmit.{retransmit}
+use Rattle.protocol.specs.Turn.{round, turn}
 
 -- ---- two hosts and a client
 
@@ -153,7 +154,7 @@ zeros (suc n) = 0 ∷ zeros n
 
 dropping : List Event
 dropping =
-    bring C (message 1 A (set 5 (some (zeros 1024))))
+    bring C (message 1 A (set 5 (some (zeros (suc valueMax)))))
     ∷ work
     ∷ bring C (message 2 A (shard (Key 0) End A))
     ∷ work
@@ -212,3 +213,25 @@ staying = bring C (message 1 A (shard (Key 0) End B)) ∷ work ∷ bring C (mess
 crowd-outcomes : outcomes staying crowd ≡ taken ∷ stuck ∷ full ∷ stuck ∷ []
 unfolding staying crowd outcomes step listOf valueOf worth digits
 crowd-outcomes = refl
+
+-- ---- turns: receive without a datagram, process, and retransmit, which is not due; and the last turn of a round, on which it is
+
+abbrev first : Step
+first = turn true true (fresh A hosts A) none
+
+abbrev second : Step
+second = turn true true (first .state) none
+
+abbrev third : Step
+third = turn true true (second .state) none
+
+turns-outcomes : (first .outcome ≡ waits) × (second .outcome ≡ idle) × (third .outcome ≡ waits) × (third .state .turns ≡ 3)
+turns-outcomes = (refl, refl, refl, refl)
+
+-- a message waits for B
+abbrev last : Host
+last = turned (round - 1) (posted B (get 5) (fresh A hosts A))
+
+last-turn : (turn true true last none .outcome ≡ resent) × (turn true true last none .sends ≡ packet 1 B (get 5) ∷ [])
+    × (turn true true last none .state .turns ≡ 0)
+last-turn = (refl, refl, refl)

@@ -6,3 +6,4 @@ pub mod Delivery
 pub mod Receive
 pub mod Process
 pub mod Retransmit
+pub mod Turn

@@ -22,8 +22,11 @@ use Rattle.protocol.specs.Delivery.{Step, Outcome, Act, Request, got, st
 -- ---- what a step does with the message
 
 -- the room is free, and that is all
+abbrev pub free : Host → Host
+free h = done (h .owners) (h .records) (h .transfers) h
+
 abbrev pub discarded : Host → Outcome → Step
-discarded h o = still (done (h .owners) (h .records) (h .transfers) h) o
+discarded h o = still (free h) o
 
 -- the body is sent to a by a host whose room is free; nothing is done if there is no number for it
 abbrev pub answering : Bool → Host → Address → Body → Outcome → Option Request → Step
@@ -31,9 +34,6 @@ answering true h a b o x = record { state = posted a b h; sends = packet (next h
 answering false h a b o x = still h unnumbered
 
 -- ---- Get and Set
-
-abbrev pub free : Host → Host
-free h = done (h .owners) (h .records) (h .transfers) h
 
 abbrev pub redirecting : Host → Letter → ℕ → Step
 redirecting h l k = answering (numbered h (l .from)) (free h) (l .from) (redirect k (ownerOf (h .owners) k)) redirected none
@@ -95,9 +95,9 @@ abbrev pub onShard : (refused : Bool) → Host → Bound → Bound → Address �
 onShard true h lo hi a = discarded h dropped
 onShard false h lo hi a = handing (numbered h a) h lo hi a
 
--- ---- the table of document 01. A Delegate or Shard stays while the count of transfers is at its limit
+-- ---- the table of document 01. A Delegate or Shard stays while the count of transfers is not `few`, that is, at its limit
 
-abbrev pub onBody : (below : Bool) → Bool → Host → Letter → Body → Step
+abbrev pub onBody : (few fits : Bool) → Host → Letter → Body → Step
 onBody few fits h l (get k) = onGet (same (ownerOf (h .owners) k) (h .me)) h l k
 onBody few fits h l (set k v) = onSet (long v) (same (ownerOf (h .owners) k) (h .me)) fits h l k v
 onBody true fits h l (delegate lo hi es) = onDelegate (unfit h l lo hi es) h l lo hi es

@@ -20,29 +20,31 @@ abbrev pub look : ℕ → List Entry → Option Value
 look k [] = none
 look k (e ∷ l) = cond (eqb k (e .key)) (some (e .value)) (look k l)
 
+-- the entries whose keys pass the test
+abbrev pub kept : (ℕ → Bool) → List Entry → List Entry
+kept p [] = []
+kept p (e ∷ l) = cond (p (e .key)) (e ∷ kept p l) (kept p l)
+
 -- the key's entry taken out
 abbrev pub without : ℕ → List Entry → List Entry
-without k [] = []
-without k (e ∷ l) = cond (eqb k (e .key)) (without k l) (e ∷ without k l)
+without k = kept (λ j. not (eqb j k))
 
--- the entry put in its place among the others, which do not have its key
-abbrev pub placed : Entry → List Entry → List Entry
-placed x [] = x ∷ []
-placed x (e ∷ l) = cond (ltb (x .key) (e .key)) (x ∷ e ∷ l) (e ∷ placed x l)
+-- the entry in its place among the others, which do not have its key
+abbrev pub filed : Entry → List Entry → List Entry
+filed x [] = x ∷ []
+filed x (e ∷ l) = cond (ltb (x .key) (e .key)) (x ∷ e ∷ l) (e ∷ filed x l)
 
 -- the key set to a value, or taken out with none
 abbrev pub setting : ℕ → Option Value → List Entry → List Entry
 setting k none l = without k l
-setting k (some v) l = placed (record { key = k; value = v }) (without k l)
+setting k (some v) l = filed (record { key = k; value = v }) (without k l)
 
 -- the entries in the range [lo, hi), and those outside
 abbrev pub inRange : Bound → Bound → List Entry → List Entry
-inRange lo hi [] = []
-inRange lo hi (e ∷ l) = cond (holds lo hi (e .key)) (e ∷ inRange lo hi l) (inRange lo hi l)
+inRange lo hi = kept (holds lo hi)
 
 abbrev pub outside : Bound → Bound → List Entry → List Entry
-outside lo hi [] = []
-outside lo hi (e ∷ l) = cond (holds lo hi (e .key)) (outside lo hi l) (e ∷ outside lo hi l)
+outside lo hi = kept (λ j. not (holds lo hi j))
 
 -- entries stored one after the other
 abbrev pub storing : List Entry → List Entry → List Entry

@@ -1,2 +1,3 @@
-// The host as a function: definitions alone, in specs/. There is no code here; the host's code is proved
-// to do what these definitions say, and the theorem about all hosts is about the same definitions.
+// The host as a function: definitions alone, in specs/, and laws about them. There is no code here. The
+// host's code, when it comes, is to be proved against these definitions, and the theorem about all hosts
+// is to be about the same ones.

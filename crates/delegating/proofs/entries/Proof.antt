@@ -8,16 +8,12 @@ use borrow.Author.Needs.{needs}
 use lib.ListN.{length, take, drop, getD}
 use Rattle.delegating.proofs.entries.Statement.{statement}
 use Rattle.delegating.proofs.entries.Tie as tie
-use Rattle.memory.specs.Bytes.{placed, part}
-use Rattle.memory.proofs.Parts.{placed-nil}
+use Rattle.memory.specs.Bytes.{placed}
+use Rattle.memory.proofs.Parts.{placed-nil, part-taken}
 use Rattle.format.specs.Format.{rows}
 use Rattle.delegating.specs.Columns.{entered}
 use Rattle.sizes.specs.Sizes.{sizes}
 use Rattle.delegating.proofs.Entered.{value-length, entry-fits, more-length, more-fits, more-is}
-
--- the part of the bytes that a value is, as code takes it
-cut : (bytes : List ℕ) (a n : ℕ) → take (a + n - a) (drop a bytes) ≡ part bytes a n
-cut bytes a n = let e : a + n - a ≡ n = omega arith in rw e refl
 
 abbrev Inv-loop : tie.InvT-loop
 Inv-loop keys ats lens m bytes d₀ from at₀ i₀ d at i =
@@ -70,7 +66,7 @@ entry-requires c κs =
     let h = c .before .before .before .before .before .loop-test .taken in
     let C = c .before .before .before .before .before .before .before .before .before .before .before .before .pre .0 in
     let v = value-length (a .keys .now) (a .ats .now) (a .lens .now) (a .bytes .now) (a .m) C i h in
-    let e = cut (a .bytes .now) (getD (a .ats .now) i 0) (getD (a .lens .now) i 0) in
+    let e = part-taken (a .bytes .now) (getD (a .ats .now) i 0) (getD (a .lens .now) i 0) in
     rw (e, v) (entry-fits (a .keys .now) (a .ats .now) (a .lens .now) (a .bytes .now) (a .m) C i (c .before .before .before .before .before .before .loop .at) (c .before .before .before .before .before .before .loop .d) h (c .before .before .before .before .before .before .loop .inv .2))
 
 add-at : tie.Need-add-at Inv-loop μ-loop
@@ -103,7 +99,7 @@ loop-again c =
     let h = c .before .before .before .before .before .before .before .before .loop-test .taken in
     let C = c .before .before .before .before .before .before .before .before .before .before .before .before .before .before .before .pre .0 in
     let f = c .before .before .before .before .before .before .before .before .before .loop .inv .2 in
-    let e = cut (a .bytes .now) (getD (a .ats .now) i 0) (getD (a .lens .now) i 0) in
+    let e = part-taken (a .bytes .now) (getD (a .ats .now) i 0) (getD (a .lens .now) i 0) in
     let l = more-length (a .keys .now) (a .ats .now) (a .lens .now) (a .bytes .now) (a .m) C i at d h f _ _ e (c .before .before .entry .ensures) in
     (omega (arith, h), l ∙ c .before .before .before .before .before .before .before .before .before .loop .inv .1, more-fits (a .keys .now) (a .ats .now) (a .lens .now) (a .bytes .now) (a .m) C i at d h f _ _ e (c .before .before .entry .ensures), more-is (a .keys .now) (a .ats .now) (a .lens .now) (a .bytes .now) (a .m) C i at d h f _ _ e (c .before .before .entry .ensures) _ (c .before .before .before .before .before .before .before .before .before .loop .inv .3))
 

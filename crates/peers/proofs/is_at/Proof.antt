@@ -9,11 +9,7 @@ use lib.ListN.{take, drop}
 use Rattle.peers.proofs.is_at.Statement.{statement}
 use Rattle.peers.proofs.is_at.Tie as tie
 use mathlib.Core.Bool.{false≢true}
-use Rattle.memory.specs.Bytes.{part}
-
--- the part of the bytes that an address is, as code takes it
-cut : (bytes : List ℕ) (a n : ℕ) → take (a + n - a) (drop a bytes) ≡ part bytes a n
-cut bytes a n = let e : a + n - a ≡ n = omega arith in rw e refl
+use Rattle.memory.proofs.Parts.{part-taken}
 
 returns : tie.Need-returns
 returns c = record { yes = λ e. absurd (false≢true e); no = λ e h q. omega (arith, c .if1 .taken, h) }
@@ -39,7 +35,7 @@ same-requires c κs = search needs
 returns-2 : tie.Need-returns-2
 returns-2 c =
     let a = c .before .before .before .before .before .args in
-    let e = cut (a .names .now) (a .i * a .width) (a .len) in
+    let e = part-taken (a .names .now) (a .i * a .width) (a .len) in
     record { yes = λ t. (c .before .before .if1 .left, sym e ∙ c .same .ensures .yes t); no = λ t h q. c .same .ensures .no t (e ∙ q) }
 
 pub is-at-spec : {M : Type 1} → statement M

@@ -10,11 +10,8 @@ use Rattle.writing.proofs.text.Statement.{statement}
 use Rattle.writing.proofs.text.Tie as tie
 use Rattle.memory.proofs.Copies.{copied-then, copied-no}
 use Rattle.format.proofs.Numbers.{length-digits}
+use Rattle.format.proofs.Clear.{length-counted}
 use Rattle.format.specs.Number.{width, digits}
-
--- the bytes that a byte string takes
-long : (s : List ℕ) → length (digits width (length s) ++ s) ≡ width + length s
-long s = length-append (digits width (length s)) s ∙ ap (λ (n : ℕ). n + length s) (length-digits width (length s))
 
 returns : tie.Need-returns
 returns c = copied-no _ _ _ (omega (arith, c .if1 .taken))
@@ -23,7 +20,7 @@ sub-if2 : tie.Need-sub-if2
 sub-if2 c = search needs
 
 returns-2 : tie.Need-returns-2
-returns-2 c = copied-no _ _ _ (omega (arith, c .if2 .taken, c .before .if1 .left, long (c .before .before .before .before .args .src .now)))
+returns-2 c = copied-no _ _ _ (omega (arith, c .if2 .taken, c .before .if1 .left, length-counted (c .before .before .before .before .args .src .now)))
 
 add-from : tie.Need-add-from
 add-from c = search needs
@@ -32,7 +29,7 @@ sub-if3 : tie.Need-sub-if3
 sub-if3 c = search needs
 
 returns-3 : tie.Need-returns-3
-returns-3 c = copied-no _ _ _ (omega (arith, c .if3 .taken, c .before .if2 .left, c .before .before .if1 .left, long (c .before .before .before .before .before .args .src .now)))
+returns-3 c = copied-no _ _ _ (omega (arith, c .if3 .taken, c .before .if2 .left, c .before .before .if1 .left, length-counted (c .before .before .before .before .before .args .src .now)))
 
 number-requires : tie.Need-number-requires
 number-requires c κs = search needs
