@@ -14,6 +14,10 @@ bytesMax = 0x100000
 abbrev pub entriesLimit : ℕ
 entriesLimit = 62
 
+-- a datagram has room for at least so many bytes
+abbrev pub datagramMin : ℕ
+datagramMin = 65_536
+
 -- the count of transfers is below this
 abbrev pub transfersLimit : ℕ
 transfersLimit = 0x7fffffffffffffff

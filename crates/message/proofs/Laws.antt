@@ -81,7 +81,7 @@ abbrev pub Short : List Entry → Type 0
 Short [] = Unit
 Short (e ∷ l) = (length (e .value) ≤ valueMax) × Short l
 
-rows-short : (l : List Entry) → Short l → length (rows l) ≤ length l * (width + width + valueMax)
+pub rows-short : (l : List Entry) → Short l → length (rows l) ≤ length l * (width + width + valueMax)
 rows-short [] h = omega arith
 rows-short (e ∷ l) h =
     omega (

@@ -4,12 +4,14 @@
 use mathlib.Core.Path.{_≡_}
 use mathlib.Core.Bool.{Bool, true, false, cond}
 use mathlib.Core.List.{List}
-use Prim.Native.Nat.{ℕ, min, _+_, _*_, _/_, _≤_, _<_}
+use Prim.Native.Nat.{ℕ, min, _+_, _*_, _-_, _/_, _≤_, _<_}
 use lib.ListN.{length, getD}
 use lib.Dec.{eqb}
 use Rattle.memory.specs.Bytes.{part}
 use Rattle.peers.specs.declared.Peer.{Peer}
 use Rattle.peers.specs.declared.Peer.the-variants.{Is, Unknown}
+use Rattle.peers.specs.declared.Where.{Where}
+use Rattle.peers.specs.declared.Where.the-variants.{At as Between, Missing}
 use Rattle.peers.specs.declared.Added.{Added}
 use Rattle.peers.specs.declared.Added.the-variants.{At, Full, TooLong}
 
@@ -43,6 +45,16 @@ FindCases Unknown lens names width n a = (N : ℕ → List ℕ) → Keeps lens n
 
 pub record AfterFind (lens names : List ℕ) (width n : ℕ) (a : List ℕ) (r : Peer) : Type 0 where
   pub is : FindCases r lens names width n a
+
+-- the peer's address stands in the names from one byte up to another, or there is no such peer. What is named lies within the names in any case
+abbrev pub NameCases : Where → (lens names : List ℕ) → ℕ → ℕ → Type 0
+NameCases (Between from to) lens names width i =
+    (from ≤ to) × (to ≤ length names)
+    × ((n : ℕ) (N : ℕ → List ℕ) → Keeps lens names width n N → i < n → part names from (to - from) ≡ N i)
+NameCases Missing lens names width i = (n : ℕ) (N : ℕ → List ℕ) → Keeps lens names width n N → i < n → ⊥
+
+pub record AfterName (lens names : List ℕ) (width i : ℕ) (r : Where) : Type 0 where
+  pub is : NameCases r lens names width i
 
 -- an address that no peer has gets the next number, or there is no place for it, or it is too long for one: then nothing has changed
 abbrev pub AddCases : Added → (lens names : List ℕ) → ℕ → ℕ → List ℕ → (lens′ names′ : List ℕ) → Type 0

@@ -4,7 +4,7 @@
 ghost use mathlib.Core.Path.{_≡_};
 ghost use Prim.Native.Nat.{min, _+_, _*_, _/_, _≤_, _<_};
 ghost use lib.ListN.{length};
-ghost use Rattle.peers.specs.Names.{Standing, AfterFind, AfterAdd};
+ghost use Rattle.peers.specs.Names.{Standing, AfterFind, AfterName, AfterAdd};
 
 // The number of an address.
 pub enum Peer {
@@ -17,6 +17,12 @@ pub enum Added {
     At(usize),
     Full,
     TooLong,
+}
+
+// Where a peer's address stands in the names, from one byte up to another, or that there is no such peer.
+pub enum Where {
+    At(usize, usize),
+    Missing,
 }
 
 // Which peer has that address? The peers are looked through from the front.
@@ -46,6 +52,21 @@ fn is_at(names: &[u8], width: usize, i: usize, len: usize, address: &[u8]) -> bo
     let from = i * width;
     let to = from + len;
     memory::same(&names[from..to], address)
+}
+
+// Where is the peer's address?
+pub fn name(lens: &[u64], names: &[u8], width: usize, peer: usize) -> Where
+    ensures { λ r. ⌜ AfterName (now (lens .entry)) (now (names .entry)) width peer r ⌝ }
+{
+    if room(lens.len(), names.len(), width) <= peer {
+        return Where::Missing;
+    }
+    let len = lens[peer] as usize;
+    if width < len {
+        return Where::Missing;
+    }
+    let from = peer * width;
+    Where::At(from, from + len)
 }
 
 // The next number for an address that no peer has.

@@ -49,17 +49,17 @@ abbrev pub long : Option Value → Bool
 long none = false
 long (some v) = ltb valueMax (length v)
 
--- if the reply can't be sent, the request isn't executed
-abbrev pub keeping : (can : Bool) → Host → Letter → ℕ → Option Value → Step
-keeping true h l k v =
+-- If the reply can't be sent, the request isn't executed. A Set that finds the table full is dropped
+abbrev pub keeping : (can fits : Bool) → Host → Letter → ℕ → Option Value → Step
+keeping true true h l k v =
     answering true (done (h .owners) (setting k v (h .records)) (h .transfers) h) (l .from) (reply k v) replied
     (some (record { from = l .from; number = l .number; act = stored k v }))
-keeping false h l k v = discarded h unnumbered
+keeping true false h l k v = discarded h dropped
+keeping false fits h l k v = discarded h unnumbered
 
 abbrev pub onSet : (tooLong mine fits : Bool) → Host → Letter → ℕ → Option Value → Step
 onSet true mine fits h l k v = discarded h dropped
-onSet false true true h l k v = keeping (numbered h (l .from)) h l k v
-onSet false true false h l k v = discarded h dropped
+onSet false true fits h l k v = keeping (numbered h (l .from)) fits h l k v
 onSet false false fits h l k v = redirecting h l k
 
 -- ---- transfers

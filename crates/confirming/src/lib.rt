@@ -1,0 +1,33 @@
+// An Ack: what was sent to a peer has arrived, up to a number. Exactly those messages stop waiting.
+use delivery::WORDS;
+ghost use Rattle.confirming.specs.Answers.{AfterConfirm, Cleared};
+
+// The messages up to that number have arrived at the peer. A number above the last one sent counts too:
+// nothing waits then, and the next message gets the number after it.
+pub fn confirm(counts: &mut [u64], places: &mut [u64], peer: usize, number: u64)
+    ensures { λ _. ⌜ AfterConfirm (now (counts .entry)) (now (places .entry)) peer number (now (counts .exit)) (now (places .exit)) ⌝ }
+{
+    if counts.len() / WORDS <= peer {
+        return;
+    }
+    counts[peer * WORDS + 1] = number;
+    if counts[peer * WORDS + 2] < number {
+        counts[peer * WORDS + 2] = number;
+    }
+    clear(places, peer as u64 + 1, number);
+}
+
+// Frees the places with that mark and a number up to x.
+fn clear(places: &mut [u64], mark: u64, x: u64)
+    ensures { λ _. ⌜ Cleared (now (places .entry)) mark x (now (places .exit)) ⌝ }
+{
+    let mut p: usize = 0;
+    while p < places.len() / WORDS {
+        if places[p * WORDS] == mark {
+            if places[p * WORDS + 1] <= x {
+                places[p * WORDS] = 0;
+            }
+        }
+        p += 1;
+    }
+}

@@ -1,0 +1,3 @@
+pub mod Post
+pub mod Memory
+pub mod Answers

@@ -1,0 +1,3 @@
+pub mod Refused
+pub mod Handed
+pub mod Steps

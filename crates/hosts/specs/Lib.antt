@@ -1,0 +1,5 @@
+pub mod Memory
+pub mod Says
+pub mod Limits
+pub mod Keeps
+pub mod Answers

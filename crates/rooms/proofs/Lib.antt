@@ -1,0 +1,4 @@
+pub mod Refused
+pub mod Shards
+pub mod Delegates
+pub mod Bodies

@@ -1,0 +1,222 @@
+// The room test of document 01, section 6: is there room for all that a message may need? What there will
+// be is counted, not what there might be at most; a message that would only be dropped needs nothing.
+// Nothing is changed here, and nothing is asked of a caller.
+use format::Part;
+use hosts::State;
+use keys::Bound;
+use limits::ENTRIES_LIMIT;
+use limits::VALUE_MAX;
+use message::BodyView;
+use message::ListView;
+use message::ValueView;
+use peers::Peer;
+use posting::Vacancy;
+ghost use mathlib.Core.Path.{_≡_};
+ghost use Rattle.rooms.specs.Answers.{Tested};
+ghost use Rattle.rooms.specs.Inner.{Vacant, TooLong, AfterRecipient, Movable, Fits, heard, ShardTested, DelegateTested};
+
+// Is there room for the message with that body, which stands in the datagram s and came from that address?
+pub fn roomy(
+    lows: &[u64],
+    owners: &[u64],
+    keys: &[u64],
+    slots: &[u64],
+    name_lens: &[u64],
+    names: &[u8],
+    places: &[u64],
+    k: State,
+    from: &[u8],
+    s: &[u8],
+    body: BodyView,
+) -> bool
+    ensures { λ r. ⌜ Tested (now (lows .entry)) (now (owners .entry)) (now (keys .entry)) (now (slots .entry)) (now («name_lens» .entry)) (now (names .entry)) (now (places .entry)) k (now (from .entry)) (now (s .entry)) body r ⌝ }
+{
+    match body {
+        BodyView::Get(_) => vacant(places),
+        BodyView::Set(_, v) => {
+            if too_long(v) {
+                return true;
+            }
+            vacant(places)
+        }
+        BodyView::Reply(_, _) => true,
+        BodyView::Redirect(_, _) => true,
+        BodyView::Shard(lo, hi, to) => shard(
+            lows,
+            owners,
+            keys,
+            name_lens,
+            names,
+            places,
+            k,
+            s,
+            lo,
+            hi,
+            to,
+        ),
+        BodyView::Delegate(lo, hi, list) => delegate(
+            lows,
+            owners,
+            keys,
+            slots,
+            name_lens,
+            names,
+            k,
+            from,
+            s,
+            lo,
+            hi,
+            list,
+        ),
+    }
+}
+
+// Is there a place for one more message?
+fn vacant(places: &[u64]) -> bool
+    ensures { λ r. ⌜ Vacant (now (places .entry)) r ⌝ }
+{
+    match posting::free(places) {
+        Vacancy::At(_) => true,
+        Vacancy::Nowhere => false,
+    }
+}
+
+// Is the value longer than a table keeps?
+fn too_long(v: ValueView) -> bool
+    ensures { λ r. ⌜ TooLong v r ⌝ }
+{
+    match v {
+        ValueView::None => false,
+        ValueView::At(part) => VALUE_MAX < part.len,
+    }
+}
+
+// A Shard that would be refused needs nothing; another needs a place for the Delegate, and room in the map.
+fn shard(
+    lows: &[u64],
+    owners: &[u64],
+    keys: &[u64],
+    name_lens: &[u64],
+    names: &[u8],
+    places: &[u64],
+    k: State,
+    s: &[u8],
+    lo: Bound,
+    hi: Bound,
+    to: Part,
+) -> bool
+    ensures { λ r. ⌜ ShardTested (now (lows .entry)) (now (owners .entry)) (now (keys .entry)) (now («name_lens» .entry))
+        (now (names .entry)) (now (places .entry)) k (now (s .entry)) lo hi to r ⌝ }
+{
+    let Peer::Is(i) = recipient(name_lens, names, k, s, to) else {
+        return true;
+    };
+    if !movable(lows, owners, keys, k, lo, hi) {
+        return true;
+    }
+    if !vacant(places) {
+        return false;
+    }
+    fits(lows, owners, k.bounds, lo, hi, i)
+}
+
+// The number of the host that is to get the range: any but this one.
+fn recipient(name_lens: &[u64], names: &[u8], k: State, s: &[u8], to: Part) -> Peer
+    ensures { λ r. ⌜ AfterRecipient (now («name_lens» .entry)) (now (names .entry)) k (now (s .entry)) to r ⌝ }
+{
+    let from = to.at;
+    if s.len() < from {
+        return Peer::Unknown;
+    }
+    if s.len() - from < to.len {
+        return Peer::Unknown;
+    }
+    let end = from + to.len;
+    let Peer::Is(i) = peers::find(name_lens, names, k.width, k.hosts, &s[from..end]) else {
+        return Peer::Unknown;
+    };
+    if i == k.me {
+        return Peer::Unknown;
+    }
+    Peer::Is(i)
+}
+
+// Has the range a key, is every key of it this host's, and has it few enough entries for a transfer?
+fn movable(lows: &[u64], owners: &[u64], keys: &[u64], k: State, lo: Bound, hi: Bound) -> bool
+    ensures { λ r. ⌜ Movable (now (lows .entry)) (now (owners .entry)) (now (keys .entry)) k lo hi r ⌝ }
+{
+    if keys::is_empty(lo, hi) {
+        return false;
+    }
+    if !plans::whole(lows, owners, k.bounds, lo, hi, k.me as u64) {
+        return false;
+    }
+    counts::count(keys, k.entries, lo, hi) < ENTRIES_LIMIT
+}
+
+// Does the map fit what is lent, once the range is given to host i?
+fn fits(lows: &[u64], owners: &[u64], bounds: usize, lo: Bound, hi: Bound, i: usize) -> bool
+    ensures { λ r. ⌜ Fits (now (lows .entry)) (now (owners .entry)) bounds lo hi i r ⌝ }
+{
+    let after = grants::bounds_after(lows, owners, bounds, lo, hi, i as u64);
+    if lows.len() < after {
+        return false;
+    }
+    after <= owners.len()
+}
+
+// A Delegate that would be dropped needs nothing; another needs room in the map and in the table.
+fn delegate(
+    lows: &[u64],
+    owners: &[u64],
+    keys: &[u64],
+    slots: &[u64],
+    name_lens: &[u64],
+    names: &[u8],
+    k: State,
+    from: &[u8],
+    s: &[u8],
+    lo: Bound,
+    hi: Bound,
+    list: ListView,
+) -> bool
+    ensures { λ r. ⌜ DelegateTested (now (lows .entry)) (now (owners .entry)) (now (keys .entry)) (now (slots .entry))
+        (now («name_lens» .entry)) (now (names .entry)) k (now (from .entry)) (now (s .entry)) lo hi list r ⌝ }
+{
+    let Peer::Is(i) = peers::find(name_lens, names, k.width, k.hosts, from) else {
+        return true;
+    };
+    let m = list.count as usize;
+    if !accepting::fine(heard(k, i), lo, hi, m) {
+        return true;
+    }
+    let mut ks = [0u64; ENTRIES_LIMIT];
+    let mut ats = [0u64; ENTRIES_LIMIT];
+    let mut ls = [0u64; ENTRIES_LIMIT];
+    if !accepting::columns(s, list.at, m, &mut ks, &mut ats, &mut ls) {
+        return true;
+    }
+    if !fits(lows, owners, k.bounds, lo, hi, k.me) {
+        return false;
+    }
+    counts::left(keys, k.entries, lo, hi, &ks, m) <= slots.len()
+}
+
+// The numbers of a host that hears from peer i.
+fn heard(k: State, i: usize) -> State
+    ensures { λ r. ⌜ r ≡ heard k i ⌝ }
+{
+    State {
+        me: k.me,
+        hosts: k.hosts,
+        peers: k.peers,
+        width: k.width,
+        size: k.size,
+        bounds: k.bounds,
+        entries: k.entries,
+        len: k.len,
+        from: i,
+        transfers: k.transfers,
+        turns: k.turns,
+    }
+}

@@ -1,0 +1,256 @@
+// Starting a host (document 01, sections 5 and 6): at least one address on the list, no two equal, each short
+// enough, the own one among them; the first is the owner of everything. All is tested before anything is
+// written, so a refusal leaves memory as it was.
+use delegation::Changed;
+use delivery::WORDS;
+use hosts::State;
+use limits::BYTES_MAX;
+use limits::DATAGRAM_MIN;
+use limits::DELEGATE_MAX;
+use limits::REDIRECT_MAX;
+ghost use mathlib.Core.Path.{_≡_};
+ghost use Prim.Native.Nat.{ℕ, _≤_, _<_};
+ghost use lib.ListN.{length};
+ghost use Rattle.strings.specs.Strings.{string, WellFormed};
+ghost use Rattle.delegation.specs.Map.{Keeps as KeepsMap};
+ghost use Rattle.peers.specs.Names.{Keeps as KeepsNames};
+ghost use Rattle.hosts.specs.Memory.{memory};
+ghost use Rattle.starting.specs.Inner.{Tells, NoLonger, Place, Own, Datagrams, Lengths, Enlists, begun};
+ghost use Rattle.starting.specs.Answers.{AfterStart};
+
+// The new host's numbers; or that no host starts with such a list; or that what is lent does not serve.
+pub enum Started {
+    Now(State),
+    NoHost,
+    Unfit,
+}
+
+// Starts the host with the own address `me`, on a list of n addresses that stand in the bytes.
+pub fn start(
+    lows: &mut [u64],
+    owners: &mut [u64],
+    keys: &[u64],
+    slots: &mut [u64],
+    lens: &[u64],
+    values: &[u8],
+    name_lens: &mut [u64],
+    names: &mut [u8],
+    counts: &mut [u64],
+    places: &mut [u64],
+    mail: &[u8],
+    room: &[u8],
+    width: usize,
+    size: usize,
+    ats: &[u64],
+    address_lens: &[u64],
+    bytes: &[u8],
+    n: usize,
+    me: &[u8],
+) -> Started
+    ensures { λ r. ⌜ AfterStart (memory (now (lows .entry)) (now (owners .entry)) (now (keys .entry)) (now (slots .entry)) (now (lens .entry)) (now (values .entry)) (now («name_lens» .entry)) (now (names .entry)) (now (counts .entry)) (now (places .entry)) (now (mail .entry))) (now (room .entry)) width size
+        (now (ats .entry)) (now («address_lens» .entry)) (now (bytes .entry)) n (now (me .entry)) r
+        (memory (now (lows .exit)) (now (owners .exit)) (now (keys .entry)) (now (slots .exit)) (now (lens .entry)) (now (values .entry)) (now («name_lens» .exit)) (now (names .exit)) (now (counts .exit)) (now (places .exit)) (now (mail .entry))) ⌝ }
+{
+    let own = own_place(ats, address_lens, bytes, n, me);
+    if own == n {
+        return Started::NoHost;
+    }
+    if !serves(
+        lows.len(),
+        owners.len(),
+        keys.len(),
+        slots.len(),
+        lens.len(),
+        values.len(),
+        name_lens.len(),
+        names.len(),
+        counts.len(),
+        places.len(),
+        mail.len(),
+        room.len(),
+        width,
+        size,
+        n,
+    ) {
+        return Started::Unfit;
+    }
+    if !none_longer(address_lens, n, width) {
+        return Started::Unfit;
+    }
+    let bounds = first_owns(lows, owners);
+    records::start(keys, slots, lens, values);
+    delivery::start(counts, places, mail, size);
+    enlist(name_lens, names, width, ats, address_lens, bytes, n);
+    Started::Now(begun(own, n, width, size, bounds))
+}
+
+// The place of the own address on a list with which a host starts, or n if none starts.
+fn own_place(ats: &[u64], lens: &[u64], bytes: &[u8], n: usize, me: &[u8]) -> usize
+    ensures { λ r. ⌜ Own (now (ats .entry)) (now (lens .entry)) (now (bytes .entry)) n (now (me .entry)) r ⌝ }
+{
+    if !strings::inside(ats, lens, n, bytes.len()) {
+        return n;
+    }
+    if !strings::distinct(ats, lens, n, bytes) {
+        return n;
+    }
+    if !none_longer(lens, n, BYTES_MAX - 1) {
+        return n;
+    }
+    place(ats, lens, bytes, n, me)
+}
+
+// Is none of the first n lengths larger than that?
+fn none_longer(lens: &[u64], n: usize, most: usize) -> bool
+    requires { ⌜ n ≤ length (now lens) ⌝ }
+    ensures { λ r. ⌜ Tells (NoLonger (now (lens .entry)) n most) r ⌝ }
+{
+    let mut i: usize = 0;
+    while i < n {
+        if most < lens[i] as usize {
+            return false;
+        }
+        i += 1;
+    }
+    true
+}
+
+// The place of the name on the list, or n if it is not there.
+fn place(ats: &[u64], lens: &[u64], bytes: &[u8], n: usize, name: &[u8]) -> usize
+    requires { ⌜ WellFormed (now ats) (now lens) n (length (now bytes)) ⌝ }
+    ensures { λ r. ⌜ Place (now (ats .entry)) (now (lens .entry)) (now (bytes .entry)) n (now (name .entry)) r ⌝ }
+{
+    let mut i: usize = 0;
+    while i < n {
+        let at = ats[i] as usize;
+        let len = lens[i] as usize;
+        let end = at + len;
+        if memory::same(&bytes[at..end], name) {
+            return i;
+        }
+        i += 1;
+    }
+    n
+}
+
+// Can slices of these lengths serve n hosts? How long the addresses are is not looked at.
+fn serves(
+    lows: usize,
+    owners: usize,
+    keys: usize,
+    slots: usize,
+    lens: usize,
+    values: usize,
+    name_lens: usize,
+    names: usize,
+    counts: usize,
+    places: usize,
+    mail: usize,
+    room: usize,
+    width: usize,
+    size: usize,
+    n: usize,
+) -> bool
+    ensures { λ r. ⌜ Tells (Lengths lows owners keys slots lens values «name_lens» names counts places mail room width size n) r ⌝ }
+{
+    if !datagrams_fit(width, size, room) {
+        return false;
+    }
+    if lows == 0 {
+        return false;
+    }
+    if owners == 0 {
+        return false;
+    }
+    if name_lens < n {
+        return false;
+    }
+    if names / width < n {
+        return false;
+    }
+    if counts / WORDS < n {
+        return false;
+    }
+    if places < WORDS {
+        return false;
+    }
+    if mail / size < places / WORDS {
+        return false;
+    }
+    records::fits(keys, slots, lens, values, 0)
+}
+
+// Does every message that a host sends fit a datagram of that size, and a datagram the room?
+fn datagrams_fit(width: usize, size: usize, room: usize) -> bool
+    ensures { λ r. ⌜ Tells (Datagrams width size room) r ⌝ }
+{
+    if width == 0 {
+        return false;
+    }
+    if BYTES_MAX <= width {
+        return false;
+    }
+    if size < DELEGATE_MAX + width {
+        return false;
+    }
+    if size < REDIRECT_MAX + width + width {
+        return false;
+    }
+    if size < DATAGRAM_MIN {
+        return false;
+    }
+    size <= room
+}
+
+// The first host owns every key. Answers how many bounds that takes.
+fn first_owns(lows: &mut [u64], owners: &mut [u64]) -> usize
+    requires { ⌜ (0 < length (now lows)) × (0 < length (now owners)) ⌝ }
+    ensures { λ r. ⌜ KeepsMap (now (lows .exit)) (now (owners .exit)) r (λ (k : ℕ). 0) ⌝ }
+{
+    match delegation::start(lows, owners, 0) {
+        Changed::Bounds(m) => m,
+        Changed::NoRoom => 0,
+    }
+}
+
+// Writes down the addresses of the list, one after the other.
+fn enlist(
+    lens: &mut [u64],
+    names: &mut [u8],
+    width: usize,
+    ats: &[u64],
+    address_lens: &[u64],
+    bytes: &[u8],
+    n: usize,
+)
+    requires { ⌜ Enlists (length (now lens)) (length (now names)) width (now ats) (now «address_lens») (now bytes) n ⌝ }
+    ensures { λ _. ⌜ KeepsNames (now (lens .exit)) (now (names .exit)) width n (string (now (ats .entry)) (now («address_lens» .entry)) (now (bytes .entry))) ⌝ }
+{
+    let mut i: usize = 0;
+    while i < n {
+        let at = ats[i] as usize;
+        let len = address_lens[i] as usize;
+        let end = at + len;
+        peers::add(lens, names, width, i, &bytes[at..end]);
+        i += 1;
+    }
+}
+
+// The numbers of a host that has only started.
+fn begun(own: usize, n: usize, width: usize, size: usize, bounds: usize) -> State
+    ensures { λ r. ⌜ r ≡ begun own n width size bounds ⌝ }
+{
+    State {
+        me: own,
+        hosts: n,
+        peers: n,
+        width,
+        size,
+        bounds,
+        entries: 0,
+        len: 0,
+        from: 0,
+        transfers: 1,
+        turns: 0,
+    }
+}

@@ -1,0 +1,124 @@
+// A message is taken into the room (document 01, sections 4 and 5): a new sender gets a place among the
+// peers, the number counts as received, and the datagram is copied into the room, once.
+use delivery::WORDS;
+use hosts::State;
+use peers::Added;
+use peers::Peer;
+use peers::Where;
+ghost use Rattle.taking.specs.Answers.{Last, Own, AfterTake};
+ghost use Rattle.taking.specs.Inner.{AfterSeat, AfterJoin};
+
+// The host's numbers after a message was taken, or that there is no room for it.
+pub enum Taken {
+    Now(State),
+    NoRoom,
+}
+
+// The number of the last message that was taken from an address: 0 if none was.
+pub fn last(name_lens: &[u64], names: &[u8], counts: &[u64], k: State, from: &[u8]) -> u64
+    ensures { λ r. ⌜ Last (now («name_lens» .entry)) (now (names .entry)) (now (counts .entry)) k (now (from .entry)) r ⌝ }
+{
+    let found = peers::find(name_lens, names, k.width, k.peers, from);
+    match found {
+        Peer::Is(i) => delivery::counts_of(counts, i).received,
+        Peer::Unknown => 0,
+    }
+}
+
+// Is the address the host's own?
+pub fn own(name_lens: &[u64], names: &[u8], k: State, address: &[u8]) -> bool
+    ensures { λ r. ⌜ Own (now («name_lens» .entry)) (now (names .entry)) k (now (address .entry)) r ⌝ }
+{
+    let Where::At(a, b) = peers::name(name_lens, names, k.width, k.me) else {
+        return false;
+    };
+    memory::same(&names[a..b], address)
+}
+
+// Takes the datagram with that number from an address.
+pub fn take(
+    name_lens: &mut [u64],
+    names: &mut [u8],
+    counts: &mut [u64],
+    room: &mut [u8],
+    k: State,
+    from: &[u8],
+    number: u64,
+    s: &[u8],
+) -> Taken
+    ensures { λ r. ⌜ AfterTake (now («name_lens» .entry)) (now (names .entry)) (now (counts .entry)) (now (room .entry)) k (now (from .entry)) number
+        (now (s .entry)) r (now («name_lens» .exit)) (now (names .exit)) (now (counts .exit)) (now (room .exit)) ⌝ }
+{
+    if room.len() < s.len() {
+        return Taken::NoRoom;
+    }
+    let Seat::At(i, peers) = seated(name_lens, names, counts, k.width, k.peers, from) else {
+        return Taken::NoRoom;
+    };
+    delivery::take(counts, i, number);
+    memory::copy(s, room, 0);
+    Taken::Now(State {
+        me: k.me,
+        hosts: k.hosts,
+        peers,
+        width: k.width,
+        size: k.size,
+        bounds: k.bounds,
+        entries: k.entries,
+        len: s.len(),
+        from: i,
+        transfers: k.transfers,
+        turns: k.turns,
+    })
+}
+
+// The number of an address, and how many peers there are then; or that there is no place for a new one.
+enum Seat {
+    At(usize, usize),
+    Full,
+}
+
+// Which of n peers has that address? If none has, it becomes the next.
+fn seated(
+    name_lens: &mut [u64],
+    names: &mut [u8],
+    counts: &mut [u64],
+    width: usize,
+    n: usize,
+    from: &[u8],
+) -> Seat
+    ensures { λ r. ⌜ AfterSeat (now («name_lens» .entry)) (now (names .entry)) (now (counts .entry)) width n (now (from .entry)) r
+        (now («name_lens» .exit)) (now (names .exit)) (now (counts .exit)) ⌝ }
+{
+    let found = peers::find(name_lens, names, width, n, from);
+    match found {
+        Peer::Is(i) => Seat::At(i, n),
+        Peer::Unknown => join(name_lens, names, counts, width, n, from),
+    }
+}
+
+// An address that none of n peers has becomes the next, if there are words for it and a place for its name.
+fn join(
+    name_lens: &mut [u64],
+    names: &mut [u8],
+    counts: &mut [u64],
+    width: usize,
+    n: usize,
+    from: &[u8],
+) -> Seat
+    ensures { λ r. ⌜ AfterJoin (now («name_lens» .entry)) (now (names .entry)) (now (counts .entry)) width n (now (from .entry)) r
+        (now («name_lens» .exit)) (now (names .exit)) (now (counts .exit)) ⌝ }
+{
+    if counts.len() / WORDS <= n {
+        return Seat::Full;
+    }
+    let added = peers::add(name_lens, names, width, n, from);
+    match added {
+        Added::At(i) => {
+            delivery::join(counts, n);
+            Seat::At(i, n + 1)
+        }
+        Added::Full => Seat::Full,
+        Added::TooLong => Seat::Full,
+    }
+}
