@@ -11,7 +11,7 @@ const TARGET: &str = "x86_64-unknown-linux-gnu";
 
 /// The crates whose exported functions are called. Of their archives only the exported names can be seen from
 /// outside, so one program links them all.
-const CRATES: [&str; 2] = ["judged", "judged_messages"];
+const CRATES: [&str; 3] = ["judged", "judged_messages", "boundary"];
 
 fn main() {
     let here = PathBuf::from(variable("CARGO_MANIFEST_DIR"));
@@ -98,7 +98,7 @@ fn emulator(tools: &Path) -> PathBuf {
 }
 
 fn list_functions(path: &Path) {
-    let lines: String = FUNCTIONS
+    let lines: String = functions()
         .iter()
         .map(|name| format!("FUNCTION({name})\n"))
         .collect();

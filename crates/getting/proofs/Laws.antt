@@ -34,7 +34,7 @@ use Rattle.hosts.specs.declared.Processed.the-variants.{Replied, Dropped, Unnum
 use Rattle.hosts.specs.Memory.{Memory}
 use Rattle.hosts.specs.Keeps.{Core}
 use Rattle.hosts.specs.Answers.{emptied, sentOr, Heard, Does}
-use Rattle.hosts.proofs.Names.{same-false}
+use Rattle.protocol.proofs.Addresses.{same-false}
 use Rattle.hosts.proofs.Sizes.{ShortValue, reply-good, reply-fits}
 use Rattle.hosts.proofs.Totals.{all-taken}
 use Rattle.hosts.proofs.Core.{mailed, name-short, answered, unanswered}

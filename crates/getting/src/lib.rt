@@ -9,7 +9,7 @@ use records::Found;
 ghost use Rattle.hosts.specs.Memory.{memory};
 ghost use Rattle.getting.specs.Answers.{AfterGet, AfterRespond, AfterValue};
 
-// Processes the Get of a key.
+// Processes the Get of a key. The Reply is put into the place of the hint, if that is free.
 pub fn get(
     lows: &[u64],
     owners: &[u64],
@@ -24,13 +24,14 @@ pub fn get(
     mail: &mut [u8],
     k: State,
     key: u64,
+    hint: usize,
 ) -> Done
     ensures { λ r. ⌜ AfterGet
         (memory (now (lows .entry)) (now (owners .entry)) (now (keys .entry)) (now (slots .entry)) (now (lens .entry)) (now (values .entry)) (now («name_lens» .entry)) (now (names .entry)) (now (counts .entry)) (now (places .entry)) (now (mail .entry)))
         k key r
         (memory (now (lows .entry)) (now (owners .entry)) (now (keys .entry)) (now (slots .entry)) (now (lens .entry)) (now (values .entry)) (now («name_lens» .entry)) (now (names .entry)) (now (counts .exit)) (now (places .exit)) (now (mail .exit))) ⌝ }
 {
-    let picked = posting::pick(counts, places, k.from);
+    let picked = posting::pick(counts, places, k.from, hint);
     match picked {
         Picked::Place(p, number) => respond(
             lows,

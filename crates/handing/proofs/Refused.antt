@@ -25,7 +25,8 @@ use Rattle.hosts.specs.declared.State.{State}
 use Rattle.hosts.specs.Memory.{Memory}
 use Rattle.hosts.specs.Says.{firsts}
 use Rattle.hosts.specs.Keeps.{Core}
-use Rattle.hosts.proofs.Names.{or-right, same-false, among-firsts, firsts-among}
+use Rattle.protocol.proofs.Addresses.{or-right, same-false}
+use Rattle.hosts.proofs.Names.{among-firsts, firsts-among}
 
 or-left : (s t : Bool) → s ≡ true → s || t ≡ true
 or-left s t e = rw e refl

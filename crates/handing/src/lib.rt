@@ -14,7 +14,8 @@ ghost use mathlib.Core.Path.{_≡_};
 ghost use Rattle.handing.specs.Answers.{AfterShard};
 ghost use Rattle.handing.specs.Inner.{discarded, AfterRecipient, HasKey, Mine, AfterOffer, AfterHand, AfterGive};
 
-// Processes the Shard whose recipient's address stands in the datagram s.
+// Processes the Shard whose recipient's address stands in the datagram s. The Delegate is put into the place
+// of the hint, if that is free.
 pub fn shard(
     lows: &mut [u64],
     owners: &mut [u64],
@@ -32,6 +33,7 @@ pub fn shard(
     lo: Bound,
     hi: Bound,
     to: Part,
+    hint: usize,
 ) -> Done
     ensures { λ r. ⌜ AfterShard (now (lows .entry)) (now (owners .entry)) (now (keys .entry)) (now (slots .entry)) (now (lens .entry))
         (now (values .entry)) (now («name_lens» .entry)) (now (names .entry)) (now (counts .entry)) (now (places .entry)) (now (mail .entry))
@@ -60,6 +62,7 @@ pub fn shard(
         lo,
         hi,
         i,
+        hint,
     )
 }
 
@@ -124,6 +127,7 @@ fn offer(
     lo: Bound,
     hi: Bound,
     i: usize,
+    hint: usize,
 ) -> Done
     ensures { λ r. ⌜ AfterOffer (now (lows .entry)) (now (owners .entry)) (now (keys .entry)) (now (slots .entry)) (now (lens .entry))
         (now (values .entry)) (now («name_lens» .entry)) (now (names .entry)) (now (counts .entry)) (now (places .entry)) (now (mail .entry))
@@ -166,6 +170,7 @@ fn offer(
         &ats,
         &ls,
         m,
+        hint,
     )
 }
 
@@ -190,13 +195,14 @@ fn hand(
     ats: &[u64],
     ls: &[u64],
     m: usize,
+    hint: usize,
 ) -> Done
     ensures { λ r. ⌜ AfterHand (now (lows .entry)) (now (owners .entry)) (now (keys .entry)) (now (slots .entry)) (now (values .entry))
         (now («name_lens» .entry)) (now (names .entry)) (now (counts .entry)) (now (places .entry)) (now (mail .entry)) k lo hi peer
         (now (ks .entry)) (now (ats .entry)) (now (ls .entry)) m r (now (lows .exit)) (now (owners .exit)) (now (keys .exit))
         (now (slots .exit)) (now (counts .exit)) (now (places .exit)) (now (mail .exit)) ⌝ }
 {
-    match posting::pick(counts, places, peer) {
+    match posting::pick(counts, places, peer, hint) {
         Picked::Place(p, number) => {
             let sent = transferring::delegate(
                 name_lens,

@@ -25,7 +25,8 @@ use Rattle.hosts.specs.declared.State.{State}
 use Rattle.hosts.specs.Memory.{Memory, memory}
 use Rattle.hosts.specs.Says.{firsts, datagrams, Strange, Says}
 use Rattle.hosts.specs.Keeps.{Core}
-use Rattle.hosts.proofs.Names.{at-same, at-other, among-firsts, strange-among}
+use Rattle.protocol.proofs.Addresses.{at-same, at-other}
+use Rattle.hosts.proofs.Names.{among-firsts, strange-among}
 use Rattle.hosts.proofs.Core.{mailed}
 
 -- the host after a message with the number x arrived from the address a

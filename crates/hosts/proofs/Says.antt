@@ -18,7 +18,7 @@ use Rattle.protocol.specs.Owners.{Owners, ownerOf}
 use Rattle.protocol.specs.State.{Host, done}
 use Rattle.protocol.specs.Delivery.{posted as sent, next}
 use Rattle.hosts.specs.Says.{datagrams, Says}
-use Rattle.hosts.proofs.Names.{at-same, at-other}
+use Rattle.protocol.proofs.Addresses.{at-same, at-other}
 
 -- ---- datagrams
 

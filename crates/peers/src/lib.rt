@@ -41,6 +41,29 @@ pub fn find(lens: &[u64], names: &[u8], width: usize, n: usize, address: &[u8]) 
     Peer::Unknown
 }
 
+// Which peer has that address? The place of the hint, which may be any number, is looked at first; where the
+// address does not stand there, the peers are looked through.
+pub fn find_near(
+    lens: &[u64],
+    names: &[u8],
+    width: usize,
+    n: usize,
+    address: &[u8],
+    hint: usize,
+) -> Peer
+    ensures { λ r. ⌜ AfterFind (now (lens .entry)) (now (names .entry)) width n (now (address .entry)) r ⌝ }
+{
+    let end = within(n, room(lens.len(), names.len(), width));
+    if end <= hint {
+        return find(lens, names, width, n, address);
+    }
+    let long = lens[hint] as usize;
+    if is_at(names, width, hint, long, address) {
+        return Peer::Is(hint);
+    }
+    find(lens, names, width, n, address)
+}
+
 // Does that address stand at place i, where it would be so long?
 fn is_at(names: &[u8], width: usize, i: usize, len: usize, address: &[u8]) -> bool
     requires { ⌜ i * width + width ≤ length (now names) ⌝ }

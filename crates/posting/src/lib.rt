@@ -32,15 +32,29 @@ pub fn free(places: &[u64]) -> Vacancy
     Vacancy::Nowhere
 }
 
-// The number and the place of the next message to the peer. Numbers run out before places do.
-pub fn pick(counts: &[u64], places: &[u64], peer: usize) -> Picked
+// Which place is free? That of the hint, which may be any number, is looked at first.
+fn free_near(places: &[u64], hint: usize) -> Vacancy
+    ensures { λ r. ⌜ AfterFree (now (places .entry)) r ⌝ }
+{
+    if places.len() / WORDS <= hint {
+        return free(places);
+    }
+    if places[hint * WORDS] == 0 {
+        return Vacancy::At(hint);
+    }
+    free(places)
+}
+
+// The number and the place of the next message to the peer. Numbers run out before places do. The place of the
+// hint is taken if it is free.
+pub fn pick(counts: &[u64], places: &[u64], peer: usize, hint: usize) -> Picked
     ensures { λ r. ⌜ AfterPick (now (counts .entry)) (now (places .entry)) peer r ⌝ }
 {
     let last = delivery::counts_of(counts, peer).last;
     if last == NUMBER_MAX {
         return Picked::NoNumber;
     }
-    match free(places) {
+    match free_near(places, hint) {
         Vacancy::At(p) => Picked::Place(p, last + 1),
         Vacancy::Nowhere => Picked::NoPlace,
     }

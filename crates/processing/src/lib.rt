@@ -14,7 +14,8 @@ ghost use Rattle.processing.specs.Answers.{AfterProcess, AfterBody, unch
 // A Delegate or a Shard is processed only while the count of transfers is below this.
 const FEW: u64 = TRANSFERS_LIMIT - 2;
 
-// Processes the message in the room, if there is one.
+// Processes the message in the room, if there is one. What is sent is put into the place of the hint, if that
+// is free.
 pub fn process(
     lows: &mut [u64],
     owners: &mut [u64],
@@ -29,6 +30,7 @@ pub fn process(
     mail: &mut [u8],
     room: &[u8],
     k: State,
+    hint: usize,
 ) -> Done
     ensures { λ r. ⌜ AfterProcess (memory (now (lows .entry)) (now (owners .entry)) (now (keys .entry)) (now (slots .entry)) (now (lens .entry)) (now (values .entry)) (now («name_lens» .entry)) (now (names .entry)) (now (counts .entry)) (now (places .entry)) (now (mail .entry)))
         k (now (room .entry)) r
@@ -58,6 +60,7 @@ pub fn process(
             k,
             &room[0..end],
             body,
+            hint,
         ),
         Parsed::Ack(_) => staying(k, Processed::Idle),
         Parsed::Invalid => staying(k, Processed::Idle),
@@ -80,6 +83,7 @@ fn row(
     k: State,
     s: &[u8],
     body: BodyView,
+    hint: usize,
 ) -> Done
     ensures { λ r. ⌜ AfterBody (memory (now (lows .entry)) (now (owners .entry)) (now (keys .entry)) (now (slots .entry)) (now (lens .entry)) (now (values .entry)) (now («name_lens» .entry)) (now (names .entry)) (now (counts .entry)) (now (places .entry)) (now (mail .entry)))
         k (now (s .entry)) body r
@@ -100,6 +104,7 @@ fn row(
             mail,
             k,
             key,
+            hint,
         ),
         BodyView::Set(key, v) => setting::set(
             lows,
@@ -117,6 +122,7 @@ fn row(
             s,
             key,
             v,
+            hint,
         ),
         BodyView::Reply(_, _) => hosts::dropped(k),
         BodyView::Redirect(_, _) => hosts::dropped(k),
@@ -141,6 +147,7 @@ fn row(
                 lo,
                 hi,
                 to,
+                hint,
             )
         }
         BodyView::Delegate(lo, hi, list) => {

@@ -1,3 +1,4 @@
+pub mod Addresses
 pub mod Whole
 pub mod Entries
 pub mod Scripts

@@ -25,7 +25,7 @@ use Rattle.protocol.specs.Receive.{receive}
 use Rattle.hosts.specs.declared.State.{State}
 use Rattle.hosts.specs.Memory.{memory}
 use Rattle.hosts.specs.Keeps.{Core}
-use Rattle.hosts.proofs.Names.{same-false}
+use Rattle.protocol.proofs.Addresses.{same-false}
 use Rattle.taking.specs.Answers.{Own, Last}
 use Rattle.receiving.specs.declared.Received.the-variants.{Elsewhere, Again, Future}
 use Rattle.receiving.specs.declared.Arrival.{Arrival}

@@ -96,11 +96,12 @@ module _ {lows owners keys slots nameLens names counts places : List ℕ} {k : S
   -- ---- it is taken
 
   pub taken : {t : Bool} → RoomTested lows owners keys slots nameLens names places k a s b t → t ≡ true
-      → {nameLens′ names′ counts′ room′ d′ : List ℕ} {k′ : State} {w : Written}
+      → {nameLens′ names′ counts′ room′ d′ : List ℕ} {k′ : State} {w : Written} {p : ℕ}
       → AfterTake nameLens names counts room k a n s (Now k′) nameLens′ names′ counts′ room′ → AfterWrite (ack n) d w d′
       → length nameLens′ ≡ length nameLens → length names′ ≡ length names → length counts′ ≡ length counts → length room′ ≡ length room
       → (lens values mail : List ℕ)
-      → Handled (Next a s n b) (memory lows owners keys slots lens values nameLens names counts places mail) k room a s d (leaving k′ Taken)
+      → Handled (Next a s n b) (memory lows owners keys slots lens values nameLens names counts places mail) k room a s d
+      (record { state = k′; outcome = Taken; place = p })
       (memory lows owners keys slots lens values nameLens′ names′ counts′ places mail)
       room′
       d′

@@ -22,7 +22,7 @@ use Rattle.receiving.specs.Answers.{ackLength, keepsAll, Tested, Receive
 
 -- the numbers stay as they are, and that became of the datagram
 abbrev pub leaving : State → Received → Arrival
-leaving k o = record { state = k; outcome = o }
+leaving k o = record { state = k; outcome = o; place = 0 }
 
 -- what became of an Ack
 abbrev pub ackOutcome : Bool → Received

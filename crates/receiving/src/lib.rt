@@ -31,10 +31,12 @@ pub enum Received {
     Unfit,
 }
 
-// The host's numbers after a datagram arrived, and what became of it.
+// The host's numbers after a datagram arrived, and what became of it. The place is a hint for processing: the
+// free place that was found for what a message that was taken may send; else 0.
 pub struct Arrival {
     pub state: State,
     pub outcome: Received,
+    pub place: usize,
 }
 
 // The datagram s arrives from an address. After Taken and Again the Ack stands at the front of `ack`.
@@ -95,7 +97,11 @@ pub fn receive(
 fn left(k: State, outcome: Received) -> Arrival
     ensures { λ r. ⌜ r ≡ leaving k outcome ⌝ }
 {
-    Arrival { state: k, outcome }
+    Arrival {
+        state: k,
+        outcome,
+        place: 0,
+    }
 }
 
 // What became of an Ack, by whether it counts.
@@ -138,7 +144,8 @@ fn message(
     if !taking::own(name_lens, names, k, &s[at..end]) {
         return left(k, Received::Elsewhere);
     }
-    let last = taking::last(name_lens, names, counts, k, from);
+    let heard = taking::last(name_lens, names, counts, k, from);
+    let last = heard.number;
     if n <= last {
         composing::ack(n, ack);
         return left(k, Received::Again);
@@ -162,10 +169,12 @@ fn message(
         s,
         n,
         body,
+        heard.peer,
     )
 }
 
-// The next message from its sender, for this host, is taken and acknowledged, if there is room for it.
+// The next message from its sender, for this host, is taken and acknowledged, if there is room for it. The
+// sender is looked for first at the peer of the hint.
 fn fresh(
     lows: &[u64],
     owners: &[u64],
@@ -182,12 +191,13 @@ fn fresh(
     s: &[u8],
     n: u64,
     body: BodyView,
+    hint: usize,
 ) -> Arrival
     ensures { λ r. ⌜ ((lens values mail : List ℕ) → Handled (Next (now (from .entry)) (now (s .entry)) n body) (memory (now (lows .entry)) (now (owners .entry)) (now (keys .entry)) (now (slots .entry)) lens values (now («name_lens» .entry)) (now (names .entry)) (now (counts .entry)) (now (places .entry)) mail)
         k (now (room .entry)) (now (from .entry)) (now (s .entry)) (now (ack .entry)) r
         (memory (now (lows .entry)) (now (owners .entry)) (now (keys .entry)) (now (slots .entry)) lens values (now («name_lens» .exit)) (now (names .exit)) (now (counts .exit)) (now (places .entry)) mail) (now (room .exit)) (now (ack .exit))) ⌝ }
 {
-    if !rooms::roomy(
+    let tested = rooms::roomy(
         lows,
         owners,
         keys,
@@ -199,14 +209,19 @@ fn fresh(
         from,
         s,
         body,
-    ) {
+    );
+    if !tested.room {
         return left(k, Received::Unreceived);
     }
-    let taken = taking::take(name_lens, names, counts, room, k, from, n, s);
+    let taken = taking::take(name_lens, names, counts, room, k, from, n, s, hint);
     match taken {
         Took::Now(after) => {
             composing::ack(n, ack);
-            left(after, Received::Taken)
+            Arrival {
+                state: after,
+                outcome: Received::Taken,
+                place: tested.place,
+            }
         }
         Took::NoRoom => left(k, Received::Unreceived),
     }

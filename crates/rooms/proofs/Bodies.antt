@@ -49,6 +49,11 @@ module _ {lows owners keys slots nameLens names places : List ℕ} {k : State} {
   answer-as : {b : BodyView} {r : Bool} → body ≡ b → Tested lows owners keys slots nameLens names places k a s b r → Tested lows owners keys slots nameLens names places k a s body r
   answer-as {b} {r} e A = subst (λ (x : BodyView). Tested lows owners keys slots nameLens names places k a s x r) (sym e) A
 
+  -- what was said of an answer holds of one that is equal to it
+  pub room-as : {r q : Bool} → q ≡ r → Tested lows owners keys slots nameLens names places k a s body r
+      → Tested lows owners keys slots nameLens names places k a s body q
+  room-as e A = subst (λ (x : Bool). Tested lows owners keys slots nameLens names places k a s body x) (sym e) A
+
   pub get-room : {x : ℕ} {r : Bool} → body ≡ Get x → Vacant places r → Tested lows owners keys slots nameLens names places k a s body r
   get-room e P =
       answer-as e

@@ -31,7 +31,8 @@ use Rattle.hosts.specs.Memory.{Memory, memory}
 use Rattle.hosts.specs.Limits.{Bounded}
 use Rattle.hosts.specs.Keeps.{Core}
 use Rattle.hosts.specs.Answers.{Heard}
-use Rattle.hosts.proofs.Names.{or-right, strange-among}
+use Rattle.protocol.proofs.Addresses.{or-right}
+use Rattle.hosts.proofs.Names.{strange-among}
 use Rattle.hosts.proofs.Core.{name-is}
 use Rattle.hosts.proofs.Arrivals.{find-as}
 use Rattle.hosts.proofs.Maps.{left-bounded, bounded-left}

@@ -27,7 +27,8 @@ use Rattle.hosts.specs.declared.State.{State}
 use Rattle.hosts.specs.Memory.{Memory, memory}
 use Rattle.hosts.specs.Says.{firsts}
 use Rattle.hosts.specs.Keeps.{Core}
-use Rattle.hosts.proofs.Names.{or-right, same-false, among-firsts, firsts-among}
+use Rattle.protocol.proofs.Addresses.{or-right, same-false}
+use Rattle.hosts.proofs.Names.{among-firsts, firsts-among}
 use Rattle.hosts.proofs.Tables.{size-within}
 use Rattle.accepting.proofs.Laws.{leb-not}
 use Rattle.rooms.specs.Inner.{movable, Movable}

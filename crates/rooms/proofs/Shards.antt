@@ -56,6 +56,11 @@ module _ {lens names : List ℕ} {k : State} {s : List ℕ} {to : Part} where
 -- ---- the Shard
 
 module _ {lows owners keys nameLens names places : List ℕ} {k : State} {s : List ℕ} {lo hi : Bound} {to : Part} where
+  -- what was said of an answer holds of one that is equal to it
+  pub shard-as : {r q : Bool} → q ≡ r → ShardTested lows owners keys nameLens names places k s lo hi to r
+      → ShardTested lows owners keys nameLens names places k s lo hi to q
+  shard-as e A = subst (λ (x : Bool). ShardTested lows owners keys nameLens names places k s lo hi to x) (sym e) A
+
   -- one that is refused needs nothing
   needless : ((slots lens values counts mail : List ℕ) (h : Host)
       → Core (memory lows owners keys slots lens values nameLens names counts places mail) k h → PartIn s to

@@ -15,6 +15,12 @@ ghost use mathlib.Core.Path.{_≡_};
 ghost use Rattle.rooms.specs.Answers.{Tested};
 ghost use Rattle.rooms.specs.Inner.{Vacant, TooLong, AfterRecipient, Movable, Fits, heard, ShardTested, DelegateTested};
 
+// Is there room? The place is a hint, where one was found free; if none was looked for, it says nothing.
+pub struct Verdict {
+    pub room: bool,
+    pub place: usize,
+}
+
 // Is there room for the message with that body, which stands in the datagram s and came from that address?
 pub fn roomy(
     lows: &[u64],
@@ -28,19 +34,19 @@ pub fn roomy(
     from: &[u8],
     s: &[u8],
     body: BodyView,
-) -> bool
-    ensures { λ r. ⌜ Tested (now (lows .entry)) (now (owners .entry)) (now (keys .entry)) (now (slots .entry)) (now («name_lens» .entry)) (now (names .entry)) (now (places .entry)) k (now (from .entry)) (now (s .entry)) body r ⌝ }
+) -> Verdict
+    ensures { λ r. ⌜ Tested (now (lows .entry)) (now (owners .entry)) (now (keys .entry)) (now (slots .entry)) (now («name_lens» .entry)) (now (names .entry)) (now (places .entry)) k (now (from .entry)) (now (s .entry)) body (r .room) ⌝ }
 {
     match body {
         BodyView::Get(_) => vacant(places),
         BodyView::Set(_, v) => {
             if too_long(v) {
-                return true;
+                return without_place(true);
             }
             vacant(places)
         }
-        BodyView::Reply(_, _) => true,
-        BodyView::Redirect(_, _) => true,
+        BodyView::Reply(_, _) => without_place(true),
+        BodyView::Redirect(_, _) => without_place(true),
         BodyView::Shard(lo, hi, to) => shard(
             lows,
             owners,
@@ -54,7 +60,7 @@ pub fn roomy(
             hi,
             to,
         ),
-        BodyView::Delegate(lo, hi, list) => delegate(
+        BodyView::Delegate(lo, hi, list) => without_place(delegate(
             lows,
             owners,
             keys,
@@ -67,17 +73,30 @@ pub fn roomy(
             lo,
             hi,
             list,
-        ),
+        )),
     }
 }
 
+// An answer for which no place was looked for.
+fn without_place(room: bool) -> Verdict
+    ensures { λ r. ⌜ r .room ≡ room ⌝ }
+{
+    Verdict { room, place: 0 }
+}
+
 // Is there a place for one more message?
-fn vacant(places: &[u64]) -> bool
-    ensures { λ r. ⌜ Vacant (now (places .entry)) r ⌝ }
+fn vacant(places: &[u64]) -> Verdict
+    ensures { λ r. ⌜ Vacant (now (places .entry)) (r .room) ⌝ }
 {
     match posting::free(places) {
-        Vacancy::At(_) => true,
-        Vacancy::Nowhere => false,
+        Vacancy::At(p) => Verdict {
+            room: true,
+            place: p,
+        },
+        Vacancy::Nowhere => Verdict {
+            room: false,
+            place: 0,
+        },
     }
 }
 
@@ -104,20 +123,24 @@ fn shard(
     lo: Bound,
     hi: Bound,
     to: Part,
-) -> bool
+) -> Verdict
     ensures { λ r. ⌜ ShardTested (now (lows .entry)) (now (owners .entry)) (now (keys .entry)) (now («name_lens» .entry))
-        (now (names .entry)) (now (places .entry)) k (now (s .entry)) lo hi to r ⌝ }
+        (now (names .entry)) (now (places .entry)) k (now (s .entry)) lo hi to (r .room) ⌝ }
 {
     let Peer::Is(i) = recipient(name_lens, names, k, s, to) else {
-        return true;
+        return without_place(true);
     };
     if !movable(lows, owners, keys, k, lo, hi) {
-        return true;
+        return without_place(true);
     }
-    if !vacant(places) {
-        return false;
+    let free = vacant(places);
+    if !free.room {
+        return free;
     }
-    fits(lows, owners, k.bounds, lo, hi, i)
+    Verdict {
+        room: fits(lows, owners, k.bounds, lo, hi, i),
+        place: free.place,
+    }
 }
 
 // The number of the host that is to get the range: any but this one.

@@ -10,7 +10,8 @@ use posting::Picked;
 ghost use Rattle.hosts.specs.Memory.{memory};
 ghost use Rattle.setting.specs.Answers.{AfterSet, AfterSettle, Sound, IsSound};
 
-// Processes the Set of a key, whose value stands in the datagram s.
+// Processes the Set of a key, whose value stands in the datagram s. The answer is put into the place of the
+// hint, if that is free.
 pub fn set(
     lows: &[u64],
     owners: &[u64],
@@ -27,6 +28,7 @@ pub fn set(
     s: &[u8],
     key: u64,
     v: ValueView,
+    hint: usize,
 ) -> Done
     ensures { λ r. ⌜ AfterSet (memory (now (lows .entry)) (now (owners .entry)) (now (keys .entry)) (now (slots .entry)) (now (lens .entry)) (now (values .entry)) (now («name_lens» .entry)) (now (names .entry)) (now (counts .entry)) (now (places .entry)) (now (mail .entry)))
         k (now (s .entry)) key v r
@@ -35,7 +37,7 @@ pub fn set(
     if !sound(s, v) {
         return hosts::dropped(k);
     }
-    let picked = posting::pick(counts, places, k.from);
+    let picked = posting::pick(counts, places, k.from, hint);
     match picked {
         Picked::Place(p, number) => settle(
             lows,

@@ -14,14 +14,27 @@ pub enum Taken {
     NoRoom,
 }
 
-// The number of the last message that was taken from an address: 0 if none was.
-pub fn last(name_lens: &[u64], names: &[u8], counts: &[u64], k: State, from: &[u8]) -> u64
-    ensures { λ r. ⌜ Last (now («name_lens» .entry)) (now (names .entry)) (now (counts .entry)) k (now (from .entry)) r ⌝ }
+// The number of the last message that was taken from an address: 0 if none was. The peer is a hint, where the
+// address was found; of an address that was not it says nothing.
+pub struct Heard {
+    pub number: u64,
+    pub peer: usize,
+}
+
+// What was the last message that was taken from an address?
+pub fn last(name_lens: &[u64], names: &[u8], counts: &[u64], k: State, from: &[u8]) -> Heard
+    ensures { λ r. ⌜ Last (now («name_lens» .entry)) (now (names .entry)) (now (counts .entry)) k (now (from .entry)) (r .number) ⌝ }
 {
     let found = peers::find(name_lens, names, k.width, k.peers, from);
     match found {
-        Peer::Is(i) => delivery::counts_of(counts, i).received,
-        Peer::Unknown => 0,
+        Peer::Is(i) => Heard {
+            number: delivery::counts_of(counts, i).received,
+            peer: i,
+        },
+        Peer::Unknown => Heard {
+            number: 0,
+            peer: k.peers,
+        },
     }
 }
 
@@ -35,7 +48,7 @@ pub fn own(name_lens: &[u64], names: &[u8], k: State, address: &[u8]) -> bool
     memory::same(&names[a..b], address)
 }
 
-// Takes the datagram with that number from an address.
+// Takes the datagram with that number from an address, which is looked for first at the peer of the hint.
 pub fn take(
     name_lens: &mut [u64],
     names: &mut [u8],
@@ -45,6 +58,7 @@ pub fn take(
     from: &[u8],
     number: u64,
     s: &[u8],
+    hint: usize,
 ) -> Taken
     ensures { λ r. ⌜ AfterTake (now («name_lens» .entry)) (now (names .entry)) (now (counts .entry)) (now (room .entry)) k (now (from .entry)) number
         (now (s .entry)) r (now («name_lens» .exit)) (now (names .exit)) (now (counts .exit)) (now (room .exit)) ⌝ }
@@ -52,7 +66,7 @@ pub fn take(
     if room.len() < s.len() {
         return Taken::NoRoom;
     }
-    let Seat::At(i, peers) = seated(name_lens, names, counts, k.width, k.peers, from) else {
+    let Seat::At(i, peers) = seated(name_lens, names, counts, k.width, k.peers, from, hint) else {
         return Taken::NoRoom;
     };
     delivery::take(counts, i, number);
@@ -86,11 +100,12 @@ fn seated(
     width: usize,
     n: usize,
     from: &[u8],
+    hint: usize,
 ) -> Seat
     ensures { λ r. ⌜ AfterSeat (now («name_lens» .entry)) (now (names .entry)) (now (counts .entry)) width n (now (from .entry)) r
         (now («name_lens» .exit)) (now (names .exit)) (now (counts .exit)) ⌝ }
 {
-    let found = peers::find(name_lens, names, width, n, from);
+    let found = peers::find_near(name_lens, names, width, n, from, hint);
     match found {
         Peer::Is(i) => Seat::At(i, n),
         Peer::Unknown => join(name_lens, names, counts, width, n, from),

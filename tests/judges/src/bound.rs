@@ -7,6 +7,13 @@ pub enum Bound {
     End,
 }
 
+/// A message has a key, or none for end.
+impl From<Option<u64>> for Bound {
+    fn from(key: Option<u64>) -> Bound {
+        key.map_or(Bound::End, Bound::Key)
+    }
+}
+
 /// Does the range [lo, hi) hold the key?
 pub fn holds(lo: Bound, hi: Bound, key: u64) -> bool {
     lo <= Bound::Key(key) && Bound::Key(key) < hi

@@ -1,11 +1,11 @@
-// The x86-64 program around the archives of `crates/judged` and `crates/judged_messages`. They hold x86-64
-// code only, and a Rust test may be built for another processor, so the test does not link them: it starts
-// this program, under an emulator where one is needed, and asks it over its standard input and output.
-// Everything that a proved function is lent lies in one arena here. The words are 64 bits, the lowest byte
-// first:
+// The x86-64 program around the archives of `crates/judged`, `crates/judged_messages` and `crates/boundary`.
+// They hold x86-64 code only, and a Rust test may be built for another processor, so the test does not link
+// them: it starts this program, under an emulator where one is needed, and asks it over its standard input and
+// output. Everything that a proved function is lent lies in one arena here. The words are 64 bits, the lowest
+// byte first:
 //
 //   at the start it says               the address of the arena
-//   1 COUNT (FUNCTION ARGUMENT*24)*    calls the functions in turn, and answers what each returned
+//   1 COUNT (FUNCTION ARGUMENT*48)*    calls the functions in turn, and answers what each returned
 //   2 AT LENGTH                        answers so many bytes of the arena
 //   3 AT LENGTH BYTE*                  writes bytes into the arena, and answers nothing
 //
@@ -17,20 +17,18 @@ long read(int, void *, word);
 long write(int, const void *, word);
 void _exit(int);
 
-#define ARGUMENTS 24
+#define ARGUMENTS 48
 #define MOST_CALLS 4096
-#define ARENA (8UL << 20)
+#define ARENA (128UL << 20)
 
 // Every function of the list is declared alike. By the calling convention each argument that is a number, a
 // bool or a pointer takes one word, and the caller clears away what the function does not look at.
-#define WORDS \
-  word, word, word, word, word, word, word, word, word, word, word, word, \
-  word, word, word, word, word, word, word, word, word, word, word, word
-typedef word function(WORDS);
-#define FUNCTION(name) extern function tagshards_judged_##name;
+#define TWELVE word, word, word, word, word, word, word, word, word, word, word, word
+typedef word function(TWELVE, TWELVE, TWELVE, TWELVE);
+#define FUNCTION(name) extern function name;
 #include "functions.inc"
 #undef FUNCTION
-#define FUNCTION(name) tagshards_judged_##name,
+#define FUNCTION(name) name,
 static function *const functions[] = {
 #include "functions.inc"
 };
@@ -75,7 +73,9 @@ static void give(const void *from, word length) {
 
 static word called(const word *a) {
   return functions[a[0]](a[1], a[2], a[3], a[4], a[5], a[6], a[7], a[8], a[9], a[10], a[11], a[12],
-                         a[13], a[14], a[15], a[16], a[17], a[18], a[19], a[20], a[21], a[22], a[23], a[24]);
+                         a[13], a[14], a[15], a[16], a[17], a[18], a[19], a[20], a[21], a[22], a[23], a[24],
+                         a[25], a[26], a[27], a[28], a[29], a[30], a[31], a[32], a[33], a[34], a[35], a[36],
+                         a[37], a[38], a[39], a[40], a[41], a[42], a[43], a[44], a[45], a[46], a[47], a[48]);
 }
 
 static void calls(void) {

@@ -3,12 +3,14 @@
 //! `library` starts the program that has the proved code and calls its functions; `draw` is the pseudo-random
 //! rule; `bound` is what all layers share. A layer has a file here with its functions under Rust types, a file
 //! in `models` with what it should do, written as plainly as can be, and a file in tests/ with its scripts.
-//! `worked` has the documents' worked examples, which examples/worked.rs prints.
+//! `worked` has the documents' worked examples, which examples/worked.rs prints. `hosts` has the host, which stands on
+//! all layers, and its model beside it step by step.
 //!
 //! All that is random follows a fixed rule, so every run does the same. A failure names the seed and the operation,
 //! or prints the datagram.
 pub mod bound;
 pub mod draw;
+pub mod hosts;
 pub mod library;
 pub mod map;
 pub mod messages;

@@ -8,9 +8,10 @@ use std::process::{Child, ChildStdin, ChildStdout, Command, Stdio};
 
 include!("functions.rs");
 
-const ARGUMENTS: usize = 24;
+const ARGUMENTS: usize = 48;
 const MOST_CALLS: usize = 4096;
-const ARENA: usize = 8 << 20;
+const MOST_READS: usize = 256;
+const ARENA: usize = 128 << 20;
 const GUARD: usize = 64;
 const GUARDED: u8 = 0xa5;
 
@@ -36,7 +37,7 @@ pub struct Column {
     size: usize,
 }
 
-/// A call of one of the FUNCTIONS, put together argument by argument.
+/// A call of one of the functions, put together argument by argument.
 #[derive(Clone, Copy, Debug)]
 pub struct Call {
     words: [u64; 1 + ARGUMENTS],
@@ -97,10 +98,14 @@ impl Library {
 
     /// No function has written before or behind a column.
     pub fn check_guards(&mut self) {
-        for at in self.guards.clone() {
-            let kept = self.part(at, GUARD) == [GUARDED; GUARD];
-            assert!(kept, "something was written outside what was lent");
-        }
+        let guard = |at: &usize| Column {
+            at: *at,
+            len: GUARD,
+            size: 1,
+        };
+        let guards: Vec<Column> = self.guards.iter().map(guard).collect();
+        let kept = self.read(&guards).iter().all(|it| it == &[GUARDED; GUARD]);
+        assert!(kept, "something was written outside what was lent");
     }
 
     pub fn read_bytes(&mut self, column: Column, from: usize, len: usize) -> Vec<u8> {
@@ -115,11 +120,19 @@ impl Library {
     pub fn read_numbers(&mut self, column: Column, len: usize) -> Vec<u64> {
         assert_eq!(column.size, 8);
         assert!(len <= column.len, "an answer is longer than its column");
-        let bytes = self.part(column.at, len * 8);
-        let words = bytes.chunks_exact(8);
-        words
-            .map(|w| u64::from_le_bytes(w.try_into().expect("8 bytes")))
-            .collect()
+        numbers(&self.part(column.at, len * 8))
+    }
+
+    /// The bytes of each of the columns, in few exchanges. Of more questions than the pipe has room for the program
+    /// would not read the last before its answers to the first are read.
+    pub fn read(&mut self, columns: &[Column]) -> Vec<Vec<u8>> {
+        let mut bytes = Vec::with_capacity(columns.len());
+        for some in columns.chunks(MOST_READS) {
+            self.ask_for(some);
+            self.flush();
+            bytes.extend(self.parts(some));
+        }
+        bytes
     }
 
     pub fn write_bytes(&mut self, column: Column, bytes: &[u8]) {
@@ -127,10 +140,31 @@ impl Library {
         self.put(column.at, bytes);
     }
 
+    /// The same byte everywhere in a column.
+    pub fn fill(&mut self, column: Column, byte: u8) {
+        self.put(column.at, &vec![byte; column.len * column.size]);
+    }
+
     pub fn write_numbers(&mut self, column: Column, from: usize, numbers: &[u64]) {
         assert!(column.size == 8 && from + numbers.len() <= column.len);
         let bytes: Vec<u8> = numbers.iter().flat_map(|n| n.to_le_bytes()).collect();
         self.put(column.at + from * 8, &bytes);
+    }
+
+    fn ask_for(&mut self, columns: &[Column]) {
+        for column in columns {
+            let len = column.len * column.size;
+            self.ask(&[READ, column.at as u64, len as u64]);
+        }
+    }
+
+    fn parts(&mut self, columns: &[Column]) -> Vec<Vec<u8>> {
+        let part = |column: &Column| {
+            let mut bytes = vec![0; column.len * column.size];
+            self.receive(&mut bytes);
+            bytes
+        };
+        columns.iter().map(part).collect()
     }
 
     fn part(&mut self, at: usize, len: usize) -> Vec<u8> {
@@ -147,11 +181,21 @@ impl Library {
         sent.expect("the program with the proved code has ended");
     }
 
-    /// The start of a call of that function.
+    /// The start of a call of that function of JUDGED.
     pub fn of(&self, function: &str) -> Call {
-        let number = FUNCTIONS.iter().position(|name| *name == function);
+        self.start_of(0, JUDGED, function)
+    }
+
+    /// The start of a call of that function of BOUNDARY.
+    pub fn of_boundary(&self, function: &str) -> Call {
+        self.start_of(JUDGED.len(), BOUNDARY, function)
+    }
+
+    /// The function is one of those that stand from `first` on in the table.
+    fn start_of(&self, first: usize, names: &[&str], function: &str) -> Call {
+        let place = names.iter().position(|name| *name == function);
         let mut words = [0; 1 + ARGUMENTS];
-        words[0] = number.unwrap_or_else(|| panic!("no function {function}")) as u64;
+        words[0] = (first + place.unwrap_or_else(|| panic!("no function {function}"))) as u64;
         Call {
             words,
             next: 1,
@@ -161,6 +205,16 @@ impl Library {
 
     pub fn call(&mut self, call: Call) -> u64 {
         self.calls(&[call])[0]
+    }
+
+    /// What a call answered, and the bytes of each of the columns after it, in one exchange.
+    pub fn call_and_read(&mut self, call: Call, columns: &[Column]) -> (u64, Vec<Vec<u8>>) {
+        self.ask(&[CALL, 1]);
+        self.ask(&call.words);
+        self.ask_for(columns);
+        self.flush();
+        let answer = self.answer();
+        (answer, self.parts(columns))
     }
 
     /// Calls in turn, and what each answered.
@@ -254,6 +308,13 @@ impl Call {
             Bound::End => self.number(1).number(0),
         }
     }
+}
+
+/// The numbers that stand in bytes, the lowest byte first.
+pub fn numbers(bytes: &[u8]) -> Vec<u64> {
+    let words = bytes.chunks_exact(8);
+    let number = |word: &[u8]| u64::from_le_bytes(word.try_into().expect("8 bytes"));
+    words.map(number).collect()
 }
 
 /// An answer that is a bool: only its lowest byte is set.

@@ -13,14 +13,14 @@ returns : tie.Need-returns
 returns c =
     record { is = λ mail size n P K h. omega (arith, c .if1 .taken, c .before .counts-of .ensures .last (c .before .before .before .before .args .places .now) mail size n P K h) }
 
-free-requires : tie.Need-free-requires
-free-requires c κs = search needs
+free-near-requires : tie.Need-free-near-requires
+free-near-requires c κs = search needs
 
 enum-known-p : tie.Need-enum-known-p
 enum-known-p c = search needs
 
-add-t10 : tie.Need-add-t10
-add-t10 c = search needs
+add-t11 : tie.Need-add-t11
+add-t11 c = search needs
 
 enum-told : tie.Need-enum-told
 enum-told c = search needs
@@ -30,7 +30,7 @@ returns-2 c =
     let a = c .before .before .before .before .before .before .before .before .args in
     record {
       is = (
-        free-as (c .before .p .given .1) (c .before .before .before .free .ensures) .is,
+        free-as (c .before .p .given .1) (c .before .before .before .free-near .ensures) .is,
         λ mail size n P K h. omega (arith, c .before .before .before .before .before .counts-of .ensures .last (a .places .now) mail size n P K h),
       );
     }
@@ -40,7 +40,7 @@ returns-3 c =
     let a = c .before .before .before .before .before .before .before .args in
     record {
       is = (
-        free-as (c .enum-told .given .1) (c .before .before .free .ensures) .is,
+        free-as (c .enum-told .given .1) (c .before .before .free-near .ensures) .is,
         λ mail size n P K h. omega (arith, c .before .before .before .if1 .left, c .before .before .before .before .counts-of .ensures .last (a .places .now) mail size n P K h),
       );
     }
@@ -51,9 +51,9 @@ pick-spec =
     (tie.spec
     counts-of-requires
     returns
-    free-requires
+    free-near-requires
     enum-known-p
-    add-t10
+    add-t11
     enum-told
     returns-2
     returns-3)

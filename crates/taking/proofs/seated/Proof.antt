@@ -6,8 +6,8 @@ use Rattle.taking.proofs.seated.Tie as tie
 use Rattle.hosts.proofs.Arrivals.{find-as}
 use Rattle.taking.proofs.Seats.{found, not-found}
 
-find-requires : tie.Need-find-requires
-find-requires c κs = search needs
+find-near-requires : tie.Need-find-near-requires
+find-near-requires c κs = search needs
 
 enum-known-found : tie.Need-enum-known-found
 enum-known-found c = search needs
@@ -26,7 +26,7 @@ same-length-2 c = search needs
 
 returns : tie.Need-returns
 returns c =
-    found (find-as (c .before .found .given .1) (c .before .before .before .find .ensures))
+    found (find-as (c .before .found .given .1) (c .before .before .before .find-near .ensures))
 
 same-length-3 : tie.Need-same-length-3
 same-length-3 c = search needs
@@ -39,13 +39,13 @@ same-length-5 c = search needs
 
 returns-2 : tie.Need-returns-2
 returns-2 c =
-    not-found (c .before .before .before .before .before .before .join .result) (find-as (c .before .before .before .before .before .before .before .before .before .before .enum-told .given .1) (c .before .before .before .before .before .before .before .before .before .before .before .before .find .ensures)) (c .before .before .before .before .before .before .join .ensures)
+    not-found (c .before .before .before .before .before .before .join .result) (find-as (c .before .before .before .before .before .before .before .before .before .before .enum-told .given .1) (c .before .before .before .before .before .before .before .before .before .before .before .before .find-near .ensures)) (c .before .before .before .before .before .before .join .ensures)
 
 pub seated-spec : {M : Type 1} → statement M
 seated-spec =
     tie.close
     (tie.spec
-    find-requires
+    find-near-requires
     enum-known-found
     enum-told
     join-requires

@@ -1,0 +1,4 @@
+pub mod Rows
+pub mod Letters
+pub mod Hosts
+mod Laws

@@ -1,0 +1,2 @@
+pub mod Homes
+pub mod Theorem

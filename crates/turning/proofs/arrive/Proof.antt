@@ -1,0 +1,59 @@
+-- `turning::arrive` meets its contract.
+-- Assumes nothing.
+use mathlib.Core.Path.{refl}
+use borrow.Author.Needs.{needs}
+use Rattle.turning.proofs.arrive.Statement.{statement}
+use Rattle.turning.proofs.arrive.Tie as tie
+use Rattle.turning.proofs.Laws.{none-arrived, one-arrived}
+use borrow.Author.Tests.{not-true, not-false}
+
+over-requires : tie.Need-over-requires
+over-requires c κs = search needs
+
+returns : tie.Need-returns
+returns c =
+    λ lens values mail. none-arrived (not-true _ (c .before .if1 .taken)) (c .over .ensures) refl
+
+receive-requires : tie.Need-receive-requires
+receive-requires c κs = search needs
+
+over-requires-2 : tie.Need-over-requires-2
+over-requires-2 c κs = search needs
+
+same-length : tie.Need-same-length
+same-length c = search needs
+
+same-length-2 : tie.Need-same-length-2
+same-length-2 c = search needs
+
+same-length-3 : tie.Need-same-length-3
+same-length-3 c = search needs
+
+same-length-4 : tie.Need-same-length-4
+same-length-4 c = search needs
+
+same-length-5 : tie.Need-same-length-5
+same-length-5 c = search needs
+
+same-length-6 : tie.Need-same-length-6
+same-length-6 c = search needs
+
+returns-2 : tie.Need-returns-2
+returns-2 c =
+    λ lens values mail. one-arrived (not-false _ (c .before .before .before .before .before .before .before .before .before .before .before .before .before .before .before .before .before .before .before .before .before .if1 .left)) (c .before .before .before .before .before .before .before .before .before .before .before .before .before .before .receive .ensures lens values mail) (c .over2 .ensures)
+
+pub arrive-spec : {M : Type 1} → statement M
+arrive-spec =
+    tie.close
+    (tie.spec
+    over-requires
+    returns
+    receive-requires
+    over-requires-2
+    same-length
+    same-length-2
+    same-length-3
+    same-length-4
+    same-length-5
+    same-length-6
+    returns-2)

@@ -1,0 +1,5 @@
+pub mod World
+pub mod Events
+pub mod Claims
+pub mod Single
+pub mod Theorem
