@@ -59,7 +59,7 @@ module _ {H : List Address} {S : States} {E : List Executed} {M C : Moves} (K : 
       → Core H (at x answering S) (request ∷ E) M C
   core-answered sorted kept small valid right same-look changes nothing = record {
     local = locals K x isHost answering (request ∷ E)
-        (local-answered (local-done (K .local x isHost) (S x .owners) es t (K .local x isHost .owner-in) sorted kept) refl (l .from) (answer act) small valid
+        (local-answered (local-done (K .local x isHost) (S x .owners) es t (K .local x isHost .owner-in) sorted kept) refl (l .from) (answer act) small valid (letter .known)
         request refl (let u = letter .last in omega (arith, u)) refl (explained act refl))
         (λ y e n. local-elsewhere (K .local y e) request (λ q. n (sym q)));
     link = λ a b e f. cell-link (cell a b e f) (K .link a b e f);

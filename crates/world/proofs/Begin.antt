@@ -43,6 +43,8 @@ module _ (first : Address) (others : List Address) (d : different (first ∷ oth
     me-is = refl;
     hosts-are = refl;
     owner-in = λ k. rw (same-refl first) refl;
+    hosts-known = λ a e. e;
+    waits-known = λ a n. absurd (n refl);
     sorted = tt;
     kept = tt;
     room-is = λ l e. absurd (Option·none-ne-some l e);

@@ -55,6 +55,7 @@ Outgoing H E x c n (b ∷ l) = Valid (message n c b) × Told H E x c n b × Outg
 pub record Lettered (E : List Executed) (x : Address) (h : Host) (l : Letter) : Type 0 where
   pub last : l .number ≡ h .received (l .from)
   pub valid : Valid (message (l .number) x (l .body))
+  pub known : among (l .from) (h .peers) ≡ true
   pub short : length (l .from) < bytesMax
   pub undone : All (λ e. e .host ≡ x → e .request .from ≡ l .from → e .request .number < l .number) E
 
@@ -62,6 +63,9 @@ pub record Local (H : List Address) (E : List Executed) (x : Address) (h : Host)
   pub me-is : h .me ≡ x
   pub hosts-are : h .hosts ≡ H
   pub owner-in : (k : ℕ) → among (ownerOf (h .owners) k) H ≡ true
+  -- hosts have a place, and so has whoever something waits for
+  pub hosts-known : (a : Address) → among a H ≡ true → among a (h .peers) ≡ true
+  pub waits-known : (a : Address) → (h .waiting a ≡ [] → ⊥) → among a (h .peers) ≡ true
   pub sorted : Above 0 (h .records)
   pub kept : All Kept (h .records)
   pub room-is : (l : Letter) → h .room ≡ some l → Lettered E x h l

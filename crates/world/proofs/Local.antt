@@ -58,7 +58,7 @@ module _ (H : List Address) (E : List Executed) (x c : Address) where
 module _ {H : List Address} {E : List Executed} {x : Address} {h : Host} (L : Local H E x h) where
   -- a message was taken from a, the next one of a's
   module _ (a : Address) (n : ℕ) (b : Body) (peers : List Address) (new : n ≡ suc (h .received a)) (valid : Valid (message n x b))
-      (short : length a < bytesMax) where
+      (short : length a < bytesMax) (all-stay : (c : Address) → among c (h .peers) ≡ true → among c peers ≡ true) (joins : among a peers ≡ true) where
     -- no count of messages received falls
     pub received-rises : (c : Address) → h .received c ≤ at a n (h .received) c
     received-rises c = go (same c a) refl
@@ -71,6 +71,7 @@ module _ {H : List Address} {E : List Executed} {x : Address} {h : Host} (L : Lo
     lettered = record {
       last = sym (rw (same-refl a) refl);
       valid = valid;
+      known = joins;
       short = short;
       undone = all-map (λ e. e .host ≡ x → e .request .number ≤ h .received (e .request .from))
           (λ e. e .host ≡ x → e .request .from ≡ a → e .request .number < n)
@@ -82,6 +83,8 @@ module _ {H : List Address} {E : List Executed} {x : Address} {h : Host} (L : Lo
       me-is = L .me-is;
       hosts-are = L .hosts-are;
       owner-in = L .owner-in;
+      hosts-known = λ c e. all-stay c (L .hosts-known c e);
+      waits-known = λ c n. all-stay c (L .waits-known c n);
       sorted = L .sorted;
       kept = L .kept;
       room-is = λ l e. subst (λ (m : Letter). Lettered E x (took a n b peers (at a n (h .received)) h) m) (Option·some-injective _ l e) lettered;
@@ -100,9 +103,11 @@ module _ {H : List Address} {E : List Executed} {x : Address} {h : Host} (L : Lo
       me-is = L .me-is;
       hosts-are = L .hosts-are;
       owner-in = L .owner-in;
+      hosts-known = L .hosts-known;
+      waits-known = λ c n. L .waits-known c (λ e. n (shorter c (same c a) refl e));
       sorted = L .sorted;
       kept = L .kept;
-      room-is = λ l e. let R = L .room-is l e in record { last = R .last; valid = R .valid; short = R .short; undone = R .undone };
+      room-is = λ l e. let R = L .room-is l e in record { last = R .last; valid = R .valid; known = R .known; short = R .short; undone = R .undone };
       done = L .done;
       told = all-map (λ e. e .host ≡ x → e .answer ≤ h .acknowledged (e .request .from) + length (h .waiting (e .request .from)))
           (λ e. e .host ≡ x → e .answer ≤ confirmed a n h .acknowledged (e .request .from) + length (confirmed a n h .waiting (e .request .from)))
@@ -111,6 +116,15 @@ module _ {H : List Address} {E : List Executed} {x : Address} {h : Host} (L : Lo
       outgoing = λ c. rest c (same c a) refl (L .outgoing c);
     }
       where
+        drop-none : (i : ℕ) → _≡_ {A = List Body} (drop i []) []
+        drop-none zero = refl
+        drop-none (suc i) = refl
+
+        shorter : (c : Address) (t : Bool) → same c a ≡ t → h .waiting c ≡ [] → cond t (drop (n - h .acknowledged a) (h .waiting a)) (h .waiting c) ≡ []
+        shorter c true e q =
+            ap (λ (l : List Body). drop (n - h .acknowledged a) l) (ap (h .waiting) (sym (same-true c a e)) ∙ q) ∙ drop-none (n - h .acknowledged a)
+        shorter c false e q = q
+
         rises : (c : Address) (t : Bool) → same c a ≡ t → (y : ℕ) → y ≤ h .acknowledged c + length (h .waiting c)
             → y ≤ cond t n (h .acknowledged c) + length (cond t (drop (n - h .acknowledged a) (h .waiting a)) (h .waiting c))
         rises c true e y f =
@@ -145,6 +159,8 @@ module _ {H : List Address} {E : List Executed} {x : Address} {h : Host} (L : Lo
     me-is = L .me-is;
     hosts-are = L .hosts-are;
     owner-in = owner-in;
+    hosts-known = L .hosts-known;
+    waits-known = L .waits-known;
     sorted = sorted;
     kept = kept;
     room-is = λ l e. absurd (Option·none-ne-some l e);
@@ -155,7 +171,15 @@ module _ {H : List Address} {E : List Executed} {x : Address} {h : Host} (L : Lo
   }
 
   -- one more message waits for c; the room is free
-  module _ (free : h .room ≡ none) (c : Address) (b : Body) (small : next h c < numbers) (valid : Valid (message (next h c) c b)) where
+  module _ (free : h .room ≡ none) (c : Address) (b : Body) (small : next h c < numbers) (valid : Valid (message (next h c) c b))
+      (place : among c (h .peers) ≡ true) where
+    still-known : (a : Address) → (posted c b h .waiting a ≡ [] → ⊥) → among a (h .peers) ≡ true
+    still-known a n = go (same a c) refl n
+      where
+        go : (t : Bool) → same a c ≡ t → (cond t (h .waiting c ++ (b ∷ [])) (h .waiting a) ≡ [] → ⊥) → among a (h .peers) ≡ true
+        go true e m = subst (λ (z : Address). among z (h .peers) ≡ true) (sym (same-true a c e)) place
+        go false e m = L .waits-known a m
+
     more-waits : (d : Address) → h .acknowledged d + length (h .waiting d) ≤ posted c b h .acknowledged d + length (posted c b h .waiting d)
     more-waits d = go (same d c) refl
       where
@@ -195,6 +219,8 @@ module _ {H : List Address} {E : List Executed} {x : Address} {h : Host} (L : Lo
       me-is = L .me-is;
       hosts-are = L .hosts-are;
       owner-in = L .owner-in;
+      hosts-known = L .hosts-known;
+      waits-known = still-known;
       sorted = L .sorted;
       kept = L .kept;
       room-is = λ l e. absurd (Option·none-ne-some l (sym free ∙ e));
@@ -211,6 +237,8 @@ module _ {H : List Address} {E : List Executed} {x : Address} {h : Host} (L : Lo
       me-is = L .me-is;
       hosts-are = L .hosts-are;
       owner-in = L .owner-in;
+      hosts-known = L .hosts-known;
+      waits-known = still-known;
       sorted = L .sorted;
       kept = L .kept;
       room-is = λ l q. absurd (Option·none-ne-some l (sym free ∙ q));
@@ -232,9 +260,11 @@ module _ {H : List Address} {E : List Executed} {x : Address} {h : Host} (L : Lo
     me-is = L .me-is;
     hosts-are = L .hosts-are;
     owner-in = L .owner-in;
+    hosts-known = L .hosts-known;
+    waits-known = L .waits-known;
     sorted = L .sorted;
     kept = L .kept;
-    room-is = λ l q. let R = L .room-is l q in record { last = R .last; valid = R .valid; short = R .short; undone = ((λ p w. absurd (n p)), R .undone) };
+    room-is = λ l q. let R = L .room-is l q in record { last = R .last; valid = R .valid; known = R .known; short = R .short; undone = ((λ p w. absurd (n p)), R .undone) };
     done = ((λ p. absurd (n p)), L .done);
     told = ((λ p. absurd (n p)), L .told);
     numbered = L .numbered;

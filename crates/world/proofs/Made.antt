@@ -60,7 +60,7 @@ module _ {H : List Address} {S : States} {E : List Executed} {M C : Moves} (K : 
       (given-host H lo hi a (S x .owners) recipient (K .local x isHost .owner-in))
       (above-kept (λ j. not (holds lo hi j)) 0 (S x .records) (K .local x isHost .sorted))
       (all-kept Kept (λ j. not (holds lo hi j)) (S x .records) (K .local x isHost .kept)))
-      refl a transfer small valid tt
+      refl a transfer small valid (K .local x isHost .hosts-known a recipient) tt
 
   -- the Shard was on its way from no host
   no-shard : (p : Address) → among p H ≡ true → inRoom p (S x .room) ≡ []

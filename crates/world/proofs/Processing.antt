@@ -151,7 +151,7 @@ module _ {H : List Address} {W : World} (A : Always H W) (d : different H ≡ tr
           let n : next (W .state x) (l .from) < numbers = ltb-true (next (W .state x) (l .from)) numbers e in
           let v = valid-redirect (next (W .state x) (l .from)) (l .from) k (ownerOf (W .state x .owners) k) n (R .short) small
           (host-short H s (ownerOf (W .state x .owners) k) (L .owner-in k)) in record {
-            core = core-told (A .core) x isHost l there strange (W .state x .transfers) (l .from) strange (redirect k (ownerOf (W .state x .owners) k)) n v (L .owner-in k);
+            core = core-told (A .core) x isHost l there strange (W .state x .transfers) (l .from) strange (redirect k (ownerOf (W .state x .owners) k)) n v (R .known) (L .owner-in k);
             grows = grows-by (posted (l .from) (redirect k (ownerOf (W .state x .owners) k)) (free (W .state x))) (λ c. refl) (W .executed) (W .made) (λ y c n b T. T)
                 nothing-made;
             spoken = (

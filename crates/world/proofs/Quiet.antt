@@ -70,7 +70,8 @@ stays N K = (cell-link N K, cell-way N)
 
 module _ {H : List Address} {S : States} {E : List Executed} {M C : Moves} (K : Core H S E M C) (x : Address) (isHost : among x H ≡ true)
     (free : S x .room ≡ none) (a : Address) (n : ℕ) (b : Body) (peers : List Address) (new : n ≡ suc (S x .received a))
-    (valid : Valid (message n x b)) (short : length a < bytesMax) (sent : among a H ≡ true → nth (S x .received a) (M a x) ≡ some b) where
+    (valid : Valid (message n x b)) (short : length a < bytesMax) (sent : among a H ≡ true → nth (S x .received a) (M a x) ≡ some b)
+    (all-stay : (c : Address) → among c (S x .peers) ≡ true → among c peers ≡ true) (joins : among a peers ≡ true) where
   abbrev g : Host
   g = took a n b peers (at a n (S x .received)) (S x)
 
@@ -107,7 +108,7 @@ module _ {H : List Address} {S : States} {E : List Executed} {M C : Moves} (K : 
 
   pub core-took : Core H (at x g S) E M C
   core-took =
-      core-quiet K x isHost g (local-took (K .local x isHost) a n b peers new valid short) refl refl
+      core-quiet K x isHost g (local-took (K .local x isHost) a n b peers new valid short all-stay joins) refl refl
       (λ p q e f.
       cases p a (LinkOf (at x g S) M C p q × (way (at x g S) p q ≡ way S p q))
       (λ u.
@@ -200,12 +201,12 @@ module _ {H : List Address} {S : States} {E : List Executed} {M C : Moves} (K : 
 
   -- .. and a stranger gets a message that executes nothing
   pub core-told : (t : ℕ) (c : Address) → among c H ≡ false → (b : Body) → next (S x) c < numbers → Valid (message (next (S x) c) c b)
-      → Told H E x c (next (S x) c) b → Core H (at x (posted c b (done (S x .owners) (S x .records) t (S x))) S) E M C
-  core-told t c other b small valid T =
+      → among c (S x .peers) ≡ true → Told H E x c (next (S x) c) b → Core H (at x (posted c b (done (S x .owners) (S x .records) t (S x))) S) E M C
+  core-told t c other b small valid place T =
       core-quiet K x isHost (posted c b (done (S x .owners) (S x .records) t (S x)))
       (local-posted
       (local-done (K .local x isHost) (S x .owners) (S x .records) t (K .local x isHost .owner-in) (K .local x isHost .sorted) (K .local x isHost .kept))
-      refl c b small valid T)
+      refl c b small valid place T)
       refl refl
       (λ p q e f.
       stays {M = M} {C = C}

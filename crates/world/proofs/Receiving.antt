@@ -1,8 +1,8 @@
 -- Receiving is fine, whatever arrives from a stranger, and if what comes from a host was handed out by it.
 -- Assumes nothing.
 use mathlib.Core.Path.{_≡_, refl, sym, ap, _∙_, subst}
-use mathlib.Core.Bool.{Bool, true, false, _&&_, false≢true}
-use mathlib.Core.List.{List, [], _∷_, append-nil}
+use mathlib.Core.Bool.{Bool, true, false, _&&_, false≢true, cond}
+use mathlib.Core.List.{List, [], _∷_, _++_, append-nil}
 use mathlib.Core.Option.{Option, none, some}
 use Prim.Native.Nat.{ℕ, suc, _≤_, _<_}
 use native.Mathlib.Omega.{arith}
@@ -11,12 +11,12 @@ use borrow.Author.Tests.{eqb-true, ltb-true, leb-true}
 use Rattle.message.specs.Message.{Address, Body, Datagram, message, ack}
 use Rattle.message.specs.Table.{Valid}
 use Rattle.decoding.specs.Decode.{same, read}
-use Rattle.decoding.proofs.Decided.{same-true}
+use Rattle.decoding.proofs.Decided.{same-true, same-refl}
 use Rattle.protocol.specs.Address.{among, withAddress, at}
 use Rattle.protocol.specs.State.{Host, Letter, took}
 use Rattle.protocol.specs.Delivery.{ackTo, confirmed, full, invalid, elsewhere, unreceived, again, future, stale}
 use Rattle.protocol.specs.Receive.{onNumber, onMessage, onAck, onDatagram, onRoom, receive}
-use Rattle.protocol.proofs.Addresses.{at-same}
+use Rattle.protocol.proofs.Addresses.{at-same, among-snoc, or-right}
 use Rattle.world.specs.World.{World}
 use Rattle.world.specs.Events.{nth}
 use Rattle.world.proofs.Invariant.{States, Speaks, Spoken, Always}
@@ -24,6 +24,21 @@ use Rattle.world.proofs.Local.{received-rises}
 use Rattle.world.proofs.Changes.{at-cases, at-self}
 use Rattle.world.proofs.Quiet.{core-took, core-confirmed}
 use Rattle.world.proofs.Net.{Fine, fine-same, From, from-read, packetOf}
+
+-- whoever has a place keeps it, and the sender gets one
+among-with : (c a : Address) (l : List Address) → among c l ≡ true → among c (withAddress a l) ≡ true
+among-with c a l e = go (among a l)
+  where
+    go : (t : Bool) → among c (cond t l (l ++ (a ∷ []))) ≡ true
+    go true = e
+    go false = among-snoc c a l ∙ rw e refl
+
+with-self : (a : Address) (l : List Address) → among a (withAddress a l) ≡ true
+with-self a l = go (among a l) refl
+  where
+    go : (t : Bool) → among a l ≡ t → among a (cond t l (l ++ (a ∷ []))) ≡ true
+    go true e = e
+    go false e = among-snoc a a l ∙ or-right (among a l) (same a a) (same-refl a)
 
 -- both of two tests pass
 both : (s t : Bool) → s && t ≡ true → (s ≡ true) × (t ≡ true)
@@ -41,13 +56,13 @@ module _ {H : List Address} {W : World} (A : Always H W) (x : Address) (isHost :
         → (among a H ≡ true → nth (W .state x .received a) (W .made a x) ≡ some b)
         → Fine H W x (onNumber true (leb n (W .state x .received a)) true (W .state x) a n b)
     fine-took n b v new sent = record {
-      core = core-took (A .core) x isHost free a n b (withAddress a (W .state x .peers)) new v (F .short) sent;
+      core = core-took (A .core) x isHost free a n b (withAddress a (W .state x .peers)) new v (F .short) sent (λ c q. among-with c a (W .state x .peers) q) (with-self a (W .state x .peers));
       grows = record {
         received = λ y c. at-cases x (took a n b (withAddress a (W .state x .peers)) (at a n (W .state x .received)) (W .state x)) (W .state)
             (λ g. W .state y .received c ≤ g .received c) y
             (λ q.
             let u : W .state y .received c ≡ W .state x .received c = ap (λ (z : Address). W .state z .received c) q in
-            let r = received-rises (A .core .local x isHost) a n b (withAddress a (W .state x .peers)) new v (F .short) c in
+            let r = received-rises (A .core .local x isHost) a n b (withAddress a (W .state x .peers)) new v (F .short) (λ d q. among-with d a (W .state x .peers) q) (with-self a (W .state x .peers)) c in
             omega (arith, u, r))
             (λ q. omega arith);
         made = λ p q. ([], sym (append-nil (W .made p q)));

@@ -33,9 +33,11 @@ local-turned n L = record {
   me-is = L .me-is;
   hosts-are = L .hosts-are;
   owner-in = L .owner-in;
+  hosts-known = L .hosts-known;
+  waits-known = L .waits-known;
   sorted = L .sorted;
   kept = L .kept;
-  room-is = λ l e. let R = L .room-is l e in record { last = R .last; valid = R .valid; short = R .short; undone = R .undone };
+  room-is = λ l e. let R = L .room-is l e in record { last = R .last; valid = R .valid; known = R .known; short = R .short; undone = R .undone };
   done = L .done;
   told = L .told;
   numbered = L .numbered;

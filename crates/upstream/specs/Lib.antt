@@ -1,0 +1,4 @@
+pub mod Messages
+pub mod Delivery
+pub mod Hosts
+pub mod View
