@@ -6,3 +6,5 @@ pub mod Processes
 pub mod Steps
 pub mod Accepts
 pub mod Runs
+pub mod Marshalling
+pub mod Maps

@@ -2,3 +2,4 @@ pub mod Messages
 pub mod Delivery
 pub mod Hosts
 pub mod View
+pub mod Marshalling
