@@ -126,3 +126,44 @@ crowded-moves : (claims (run (begin A (B ∷ [])) crowded) 5 ≡ transfer A B 0 
     × (tableOf (run (begin A (B ∷ [])) crowded .executed) 5 ≡ some x) × (length (run (begin A (B ∷ [])) crowded .sent) ≡ 4)
 unfolding digits worth listOf valueOf
 crowded-moves = (refl, refl, refl, refl)
+
+-- ---- the second transfer overtakes the first: it is from the future and waits for its turn
+
+abbrev overtaking : World
+overtaking =
+    run (begin A (B ∷ []))
+    (asks A (message 1 A (shard (Key 0) (Key 10) B))
+    ∷ works A
+    ∷ asks A (message 2 A (shard (Key 20) (Key 30) B))
+    ∷ works A
+    ∷ brings B 3
+    ∷ works B
+    ∷ brings B 1
+    ∷ works B
+    ∷ [])
+
+overtaking-waits : (claims overtaking 5 ≡ host B ∷ []) × (claims overtaking 25 ≡ transfer A B 0 ∷ []) × (length (overtaking .carried A B) ≡ 1)
+unfolding digits worth listOf valueOf
+overtaking-waits = (refl, refl, refl)
+
+-- ---- a range goes to B and comes back, and then the old transfer is brought to B once more: it is an old one still, though an Ack has come since
+
+abbrev returning : World
+returning =
+    run (begin A (B ∷ []))
+    (asks A (message 1 A (shard (Key 0) (Key 10) B))
+    ∷ works A
+    ∷ brings B 1
+    ∷ works B
+    ∷ asks B (message 1 B (shard (Key 0) (Key 10) A))
+    ∷ works B
+    ∷ brings A 4
+    ∷ works A
+    ∷ brings B 5
+    ∷ brings B 1
+    ∷ works B
+    ∷ [])
+
+returning-stays : claims returning 5 ≡ host A ∷ []
+unfolding digits worth listOf valueOf
+returning-stays = refl
