@@ -61,7 +61,8 @@
    datagram may be lost, doubled, delayed or overtaken on the way.
 
    WHAT IS PROVED of each function is its contract, in crates/boundary/src; the compiler, this header and the
-   caller are believed. */
+   caller are believed. A step on memory that keeps no host is safe and ends, and nothing is said of its answer;
+   tagshards_audit tells. */
 
 #ifndef TAGSHARDS_H
 #define TAGSHARDS_H
@@ -97,6 +98,10 @@ extern "C" {
 /* tagshards_start */
 #define TAGSHARDS_STARTED 0u    /* the memory keeps a new host */
 #define TAGSHARDS_NO_HOST 1u    /* no host starts with such a list; nothing has changed */
+
+/* tagshards_audit */
+#define TAGSHARDS_NOT_KEPT 0u   /* the memory keeps no host */
+#define TAGSHARDS_KEPT 1u       /* the memory keeps a host */
 
 /* Any function but tagshards_retransmit: what is lent does not serve; nothing has changed. */
 #define TAGSHARDS_UNFIT 2u
@@ -232,6 +237,30 @@ uint64_t tagshards_turn(
     const uint8_t *datagram, size_t datagram_count,
     uint8_t *ack, size_t ack_count,
     uint64_t *out, size_t out_count);
+
+/* Decides whether the memory keeps a host: whether there is a host, with some map, table, peers, waiting
+   messages and message in the room, that has just this memory. So the numbers agree with each other and with the
+   lengths of the slices, bounds and keys rise, every owner is a host, no address and no slot stands twice, every
+   datagram that waits and the one in the room is a message as the words say, and there is room for what that one
+   needs. Damage that leaves another host, such as another byte in a value, is not found.
+   It changes nothing. It is for memory that came from elsewhere, such as a file, and not for steps: places are
+   compared with each other, and so are peers and slots, which takes the square of their numbers, and every
+   datagram that waits is read.
+   Answers 0 or 1, or 2 if numbers has fewer than 12 words. */
+uint64_t tagshards_audit(
+    const uint64_t *lows, size_t lows_count,
+    const uint64_t *owners, size_t owners_count,
+    const uint64_t *keys, size_t keys_count,
+    const uint64_t *slots, size_t slots_count,
+    const uint64_t *lens, size_t lens_count,
+    const uint8_t *values, size_t values_count,
+    const uint64_t *name_lens, size_t name_lens_count,
+    const uint8_t *names, size_t names_count,
+    const uint64_t *counts, size_t counts_count,
+    const uint64_t *places, size_t places_count,
+    const uint8_t *mail, size_t mail_count,
+    const uint8_t *room, size_t room_count,
+    const uint64_t *numbers, size_t numbers_count);
 
 #ifdef __cplusplus
 }

@@ -1,9 +1,6 @@
 // The message in the room is processed.
-use super::code;
-use numbers::PLACE;
-use numbers::WORDS;
 ghost use Rattle.hosts.specs.Memory.{memory};
-ghost use Rattle.boundary.specs.Answers.{Processing};
+ghost use Rattle.exporting_process.specs.Answers.{Processing};
 
 // Answers a number from 20 to 27, or 2. Word 11 is a hint before, a place that may be free, and may be any number;
 // after 22, 23 and 27 it is the place of the datagram to send.
@@ -26,12 +23,7 @@ pub extern "C" fn tagshards_process(
     ensures { λ r. ⌜ Processing (memory (now (lows .entry)) (now (owners .entry)) (now (keys .entry)) (now (slots .entry)) (now (lens .entry)) (now (values .entry)) (now («name_lens» .entry)) (now (names .entry)) (now (counts .entry)) (now (places .entry)) (now (mail .entry))) (now (room .entry)) (now (numbers .entry)) r
         (memory (now (lows .exit)) (now (owners .exit)) (now (keys .exit)) (now (slots .exit)) (now (lens .exit)) (now (values .exit)) (now («name_lens» .entry)) (now (names .entry)) (now (counts .exit)) (now (places .exit)) (now (mail .exit))) (now (numbers .exit)) ⌝ }
 {
-    if numbers.len() < WORDS {
-        return code::UNFIT;
-    }
-    let k = numbers::load(numbers);
-    let hint = numbers[PLACE] as usize;
-    let done = processing::process(
+    exporting_process::process(
         lows,
         owners,
         keys,
@@ -44,11 +36,6 @@ pub extern "C" fn tagshards_process(
         places,
         mail,
         room,
-        k,
-        hint,
-    );
-    let state = done.state;
-    let outcome = done.outcome;
-    numbers::store(numbers, state, code::processed_place(outcome));
-    code::processed(outcome)
+        numbers,
+    )
 }

@@ -1,11 +1,8 @@
 // A datagram arrives.
-use super::code;
-use format::WIDTH;
-use numbers::WORDS;
 ghost use mathlib.Core.List.{List};
 ghost use Prim.Native.Nat.{ℕ};
 ghost use Rattle.hosts.specs.Memory.{memory};
-ghost use Rattle.boundary.specs.Receive.{Receiving};
+ghost use Rattle.exporting_receive.specs.Answers.{Receiving};
 
 // Answers a number from 10 to 18, or 2. After 13 and 15 the Ack to send stands at the front of `ack`. Word 11 is
 // a hint for processing. Where an Ack does not fit, the numbers are not written either.
@@ -29,14 +26,7 @@ pub extern "C" fn tagshards_receive(
         (now (room .entry)) (now (numbers .entry)) (now (from .entry)) (now (datagram .entry)) (now (ack .entry)) r
         (memory (now (lows .entry)) (now (owners .entry)) (now (keys .entry)) (now (slots .entry)) lens values (now («name_lens» .exit)) (now (names .exit)) (now (counts .exit)) (now (places .exit)) mail) (now (room .exit)) (now (numbers .exit)) (now (ack .exit))) ⌝ }
 {
-    if numbers.len() < WORDS {
-        return code::UNFIT;
-    }
-    if ack.len() < 1 + WIDTH {
-        return code::UNFIT;
-    }
-    let k = numbers::load(numbers);
-    let arrival = receiving::receive(
+    exporting_receive::receive(
         lows,
         owners,
         keys,
@@ -46,13 +36,9 @@ pub extern "C" fn tagshards_receive(
         counts,
         places,
         room,
-        ack,
-        k,
+        numbers,
         from,
         datagram,
-    );
-    let state = arrival.state;
-    let outcome = arrival.outcome;
-    numbers::store(numbers, state, arrival.place as u64);
-    code::received(outcome)
+        ack,
+    )
 }

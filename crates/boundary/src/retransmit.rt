@@ -1,7 +1,5 @@
 // The waiting messages go out again.
-use super::code;
-use numbers::WORDS;
-ghost use Rattle.boundary.specs.Answers.{Repeating};
+ghost use Rattle.exporting_retransmit.specs.Answers.{Repeating};
 
 // Answers how many places stand in `out`, or the largest number.
 #[no_mangle]
@@ -13,9 +11,5 @@ pub extern "C" fn tagshards_retransmit(
 ) -> u64
     ensures { λ r. ⌜ Repeating (now (counts .entry)) (now (places .entry)) (now (numbers .entry)) (now (out .entry)) r (now (out .exit)) ⌝ }
 {
-    if numbers.len() < WORDS {
-        return code::NO_PLACES;
-    }
-    let k = numbers::load(numbers);
-    code::repeated(repeating::retransmit(counts, places, k, out))
+    exporting_retransmit::retransmit(counts, places, numbers, out)
 }

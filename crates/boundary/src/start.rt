@@ -1,9 +1,6 @@
 // A host is started.
-use super::code;
-use numbers::WORDS;
-use starting::Started;
 ghost use Rattle.hosts.specs.Memory.{memory};
-ghost use Rattle.boundary.specs.Answers.{Starting, Kept};
+ghost use Rattle.exporting_start.specs.Answers.{Starting};
 
 // Answers 0, 1 or 2. The numbers are written only where a host starts.
 #[no_mangle]
@@ -33,10 +30,7 @@ pub extern "C" fn tagshards_start(
         (now (ats .entry)) (now («address_lens» .entry)) (now (bytes .entry)) n (now (me .entry)) r
         (memory (now (lows .exit)) (now (owners .exit)) (now (keys .entry)) (now (slots .exit)) (now (lens .entry)) (now (values .entry)) (now («name_lens» .exit)) (now (names .exit)) (now (counts .exit)) (now (places .exit)) (now (mail .entry))) (now (numbers .exit)) ⌝ }
 {
-    if numbers.len() < WORDS {
-        return code::UNFIT;
-    }
-    let started = starting::start(
+    exporting_start::start(
         lows,
         owners,
         keys,
@@ -49,6 +43,7 @@ pub extern "C" fn tagshards_start(
         places,
         mail,
         room,
+        numbers,
         width,
         size,
         ats,
@@ -56,20 +51,5 @@ pub extern "C" fn tagshards_start(
         bytes,
         n,
         me,
-    );
-    kept(numbers, started)
-}
-
-// Writes down the numbers of a host that was started. Answers what became of starting.
-fn kept(numbers: &mut [u64], started: Started) -> u64
-    ensures { λ r. ⌜ Kept started (now (numbers .entry)) (now (numbers .exit)) r ⌝ }
-{
-    match started {
-        Started::Now(k) => {
-            numbers::store(numbers, k, 0);
-            code::STARTED
-        }
-        Started::NoHost => code::NO_HOST,
-        Started::Unfit => code::UNFIT,
-    }
+    )
 }

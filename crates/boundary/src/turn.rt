@@ -1,10 +1,6 @@
 // A turn: the three kinds of step in rotation.
-use super::code;
-use numbers::PLACE;
-use numbers::WORDS;
-use turning::Ended;
 ghost use Rattle.hosts.specs.Memory.{memory};
-ghost use Rattle.boundary.specs.Turn.{Turning, KeptTurn};
+ghost use Rattle.exporting_turn.specs.Answers.{Turning};
 
 // Answers as receiving and processing do, or 30, 31 or 2. Word 11 is a hint before, as for processing; after 30 it
 // is how many places stand in `out`.
@@ -33,12 +29,7 @@ pub extern "C" fn tagshards_turn(
         (now (room .entry)) (now (numbers .entry)) arrived (now (from .entry)) (now (datagram .entry)) (now (ack .entry)) (now (out .entry)) r
         (memory (now (lows .exit)) (now (owners .exit)) (now (keys .exit)) (now (slots .exit)) (now (lens .exit)) (now (values .exit)) (now («name_lens» .exit)) (now (names .exit)) (now (counts .exit)) (now (places .exit)) (now (mail .exit))) (now (room .exit)) (now (numbers .exit)) (now (ack .exit)) (now (out .exit)) ⌝ }
 {
-    if numbers.len() < WORDS {
-        return code::UNFIT;
-    }
-    let k = numbers::load(numbers);
-    let hint = numbers[PLACE] as usize;
-    let ended = turning::turn(
+    exporting_turn::turn(
         lows,
         owners,
         keys,
@@ -51,27 +42,11 @@ pub extern "C" fn tagshards_turn(
         places,
         mail,
         room,
-        ack,
-        out,
-        k,
-        hint,
+        numbers,
         arrived,
         from,
         datagram,
-    );
-    kept(numbers, ended)
-}
-
-// Writes down the numbers after a turn, unless it was refused. Answers what became of it.
-fn kept(numbers: &mut [u64], ended: Ended) -> u64
-    ensures { λ r. ⌜ KeptTurn ended (now (numbers .entry)) (now (numbers .exit)) r ⌝ }
-{
-    let state = ended.state;
-    let outcome = ended.outcome;
-    let told = code::turned(outcome);
-    if told == code::UNFIT {
-        return told;
-    }
-    numbers::store(numbers, state, code::turned_place(outcome, ended.place));
-    told
+        ack,
+        out,
+    )
 }

@@ -32,7 +32,14 @@ pub const JUDGED: &[&str] = &[
 ];
 
 /// `crates/boundary`, the host: `tagshards_..`.
-pub const BOUNDARY: &[&str] = &["start", "receive", "process", "retransmit", "turn"];
+pub const BOUNDARY: &[&str] = &[
+    "start",
+    "receive",
+    "process",
+    "retransmit",
+    "turn",
+    "audit",
+];
 
 /// The whole names, in the order of the table.
 pub fn functions() -> Vec<String> {

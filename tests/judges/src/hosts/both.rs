@@ -2,13 +2,13 @@
 //! script that shows it.
 use super::lent::{Slice, TRANSFERS, TURNS, WORDS};
 use super::operation::Operation;
-use super::proved::{resent, step, Proved, STARTED};
+use super::proved::{resent, step, Proved, KEPT, STARTED};
 use super::seen::Seen;
 use super::shortest::shortest;
 use crate::messages::hex;
 use crate::models::host::{Address, Host, Limits, Outcome, Packet, Step};
 
-/// Is memory compared after each operation, or only when a test asks for it?
+/// Is memory audited and compared after each operation, or only when a test asks for it?
 #[derive(Clone, Copy, Debug, PartialEq, Eq)]
 pub enum Look {
     EachTime,
@@ -154,8 +154,12 @@ impl Both {
         }
     }
 
-    /// Is all that can be seen of the hosts the same?
+    /// Does memory keep a host, and is all that can be seen of the hosts the same?
     fn look(&mut self) -> Result<(), String> {
+        match self.proved.audit() {
+            KEPT => {}
+            other => return Err(format!("the audit answers {other}")),
+        }
         let found = Seen::of_memory(&mut self.proved.library, &self.proved.lent)?;
         match found.difference(&Seen::of_model(&self.model)) {
             Some(difference) => Err(difference),

@@ -8,6 +8,10 @@ pub const STARTED: u64 = 0;
 pub const NO_HOST: u64 = 1;
 pub const UNFIT: u64 = 2;
 
+/// What the audit answers: memory keeps a host, or none.
+pub const KEPT: u64 = 1;
+pub const NOT_KEPT: u64 = 0;
+
 /// What sending again answers if what is lent for the places is too short.
 pub const NO_ROOM: u64 = u64::MAX;
 
@@ -143,6 +147,19 @@ impl Proved {
             NO_ROOM => (answer, Vec::new()),
             many => (many, self.packets(&after, &after.out[..many as usize])),
         }
+    }
+
+    /// Does memory keep a host?
+    pub fn audit(&mut self) -> u64 {
+        let call = self.call("audit", &ALL);
+        self.library.call(call)
+    }
+
+    /// All that is lent, to see what changes nothing.
+    pub fn memory(&mut self) -> Vec<Vec<u8>> {
+        let slices = ALL.map(|slice| self.lent[slice]);
+        let beside = [self.ack, self.out];
+        self.library.read(&[&slices[..], &beside].concat())
     }
 
     /// Where nothing has arrived, what arrived last is lent once more, and not to be looked at.

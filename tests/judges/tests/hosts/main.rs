@@ -1,6 +1,7 @@
 //! The proved host beside the model of document 01, step by step: the document's situations one by one (`rows`,
-//! `receiving`, `counting`, `limits`, `sizes`, `starting`), worlds by the pseudo-random rule (`worlds`), and one large
-//! run (`large`).
+//! `receiving`, `counting`, `limits`, `sizes`, `starting`), worlds by the pseudo-random rule (`worlds`), one large run
+//! (`large`), and damaged memory (`audit`).
+mod audit;
 mod counting;
 mod large;
 mod limits;

@@ -10,13 +10,6 @@ fn hosts(addresses: &[&[u8]]) -> Vec<Vec<u8>> {
     addresses.iter().map(|address| address.to_vec()).collect()
 }
 
-/// All that is lent, to see that a refusal changes nothing.
-fn memory(proved: &mut Proved) -> Vec<Vec<u8>> {
-    let slices = ALL.map(|slice| proved.lent[slice]);
-    let beside = [proved.ack, proved.out];
-    proved.library.read(&[&slices[..], &beside].concat())
-}
-
 /// Memory in which every byte has been something.
 fn used(limits: Limits) -> Proved {
     let mut proved = Proved::new(limits);
@@ -29,11 +22,11 @@ fn used(limits: Limits) -> Proved {
 
 /// The answer is one of these, and where no host is started nothing has changed.
 fn answers(proved: &mut Proved, wanted: &[u64], start: impl Fn(&mut Proved) -> u64, what: &str) {
-    let before = memory(proved);
+    let before = proved.memory();
     let answer = start(proved);
     assert!(wanted.contains(&answer), "{what}: {answer}");
     if answer != STARTED {
-        let same = memory(proved) == before;
+        let same = proved.memory() == before;
         assert!(same, "{what}: a refusal changed memory");
     }
     proved.library.check_guards();
