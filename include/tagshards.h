@@ -60,6 +60,8 @@
    that is lost is given again when the message it is for arrives again. So nothing needs to be kept, and a
    datagram may be lost, doubled, delayed or overtaken on the way.
 
+   examples/c/host.c is a whole program.
+
    WHAT IS PROVED of each function is its contract, in crates/boundary/src; the compiler, this header and the
    caller are believed. A step on memory that keeps no host is safe and ends, and nothing is said of its answer;
    tagshards_audit tells. */
