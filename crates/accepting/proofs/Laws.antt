@@ -36,13 +36,13 @@ use Rattle.hosts.specs.declared.Processed.the-variants.{Accepted}
 use Rattle.hosts.specs.Memory.{Memory, memory}
 use Rattle.hosts.specs.Limits.{Bounded}
 use Rattle.hosts.specs.Keeps.{Core}
-use Rattle.hosts.specs.Answers.{moved, Does, Heard}
+use Rattle.hosts.specs.Answers.{moved, droppedOf, Does, Heard}
 use Rattle.hosts.proofs.Core.{name-is}
 use Rattle.hosts.proofs.Says.{says-done}
 use Rattle.hosts.proofs.Maps.{among-hosts, giving-is, giving-in, set-done}
 use Rattle.hosts.proofs.Tables.{keyAt, valueAt, made, made-is, listed-of, replaced-is, size-replaced}
-use Rattle.accepting.specs.Answers.{entryAt, Filled}
-use Rattle.accepting.specs.Inner.{discarded, Ready, AfterEntries}
+use Rattle.delegates.specs.Answers.{entryAt, Filled}
+use Rattle.accepting.specs.Inner.{Ready, AfterEntries}
 
 -- ---- what was answered, at the answer that was matched
 
@@ -72,7 +72,7 @@ entries-taken {k} {bounds} n e t w = record {
       ap (λ (u : State). record { state = u; outcome = Accepted }) (w .1 small ∙ ap (moved k bounds) same);
 }
 
-pub entries-dropped : {k : State} {bounds : ℕ} {q : Replaced} (r : Done) → stored q ≡ 0 → r ≡ discarded k → AfterEntries k bounds q r
+pub entries-dropped : {k : State} {bounds : ℕ} {q : Replaced} (r : Done) → stored q ≡ 0 → r ≡ droppedOf k → AfterEntries k bounds q r
 entries-dropped r z e = record { freed = ap (λ (u : Done). u .state .len) e; is = λ x p small. absurd (omega (arith, z, ap stored p)) }
 
 -- ---- when it is dropped

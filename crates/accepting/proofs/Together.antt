@@ -23,10 +23,11 @@ use Rattle.hosts.specs.declared.Done.{Done}
 use Rattle.hosts.specs.declared.Processed.the-variants.{Dropped}
 use Rattle.hosts.specs.Memory.{Memory, memory}
 use Rattle.hosts.specs.Keeps.{Core}
-use Rattle.hosts.specs.Answers.{Does, Heard}
+use Rattle.hosts.specs.Answers.{droppedOf, Does, Heard}
 use Rattle.hosts.proofs.Core.{does-dropped}
-use Rattle.accepting.specs.Answers.{AfterDelegate, Fine, AfterColumns}
-use Rattle.accepting.specs.Inner.{discarded, AfterTake}
+use Rattle.delegates.specs.Answers.{Fine, AfterColumns}
+use Rattle.accepting.specs.Answers.{AfterDelegate}
+use Rattle.accepting.specs.Inner.{AfterTake}
 use Rattle.accepting.proofs.Laws.{unfit-is}
 
 -- a Delegate that passes the first test has few entries
@@ -54,7 +55,7 @@ module _ {k : State} {s : List ℕ} {lo hi : Bound} {list : ListView} {t : Bool}
   unfit-as b e = unfit-by ∙ ap (λ (x : Bool). not x || anyLong (es s list)) e
 
 module _ {lows owners keys slots lens values : List ℕ} {k : State} {s : List ℕ} {lo hi : Bound} {list : ListView} where
-  dropped : {r : Done} → r ≡ discarded k
+  dropped : {r : Done} → r ≡ droppedOf k
       → ((m : Memory) (h : Host) (C : Core m k h) (l : Letter) → Heard m k l → BodyIn s (Delegate lo hi list) → unfit h l lo hi (es s list) ≡ true)
       → AfterDelegate lows owners keys slots lens values k s lo hi list r lows owners keys slots lens values
   dropped {r} e u = record {
@@ -63,18 +64,18 @@ module _ {lows owners keys slots lens values : List ℕ} {k : State} {s : List �
       is = λ h l C H N.
           let m = memory lows owners keys slots lens values nameLens names counts places mail in
           subst (λ (x : Done). Does m (x .state) (x .outcome) (onDelegate (unfit h l lo hi (es s list)) h l lo hi (es s list))) (sym e)
-          (subst (λ (t : Bool). Does m (discarded k .state) Dropped (onDelegate t h l lo hi (es s list))) (sym (u m h C l H (N .inside)))
+          (subst (λ (t : Bool). Does m (droppedOf k .state) Dropped (onDelegate t h l lo hi (es s list))) (sym (u m h C l H (N .inside)))
           (does-dropped m k h C Dropped refl));
     };
   }
 
-  pub not-fine : {t : Bool} {r : Done} → Fine k lo hi (list .count) t → t ≡ false → r ≡ discarded k
+  pub not-fine : {t : Bool} {r : Done} → Fine k lo hi (list .count) t → t ≡ false → r ≡ droppedOf k
       → AfterDelegate lows owners keys slots lens values k s lo hi list r lows owners keys slots lens values
   not-fine F f e = dropped e (λ m h C l H B. unfit-as F m h C l H B false f)
 
   module _ {t u : Bool} {ks ats ls : List ℕ} (F : Fine k lo hi (list .count) t) (f : t ≡ true)
       (A : AfterColumns s (list .at) (list .count) u ks ats ls) where
-    pub too-long : {r : Done} → length ks ≡ entriesLimit → length ats ≡ entriesLimit → length ls ≡ entriesLimit → u ≡ false → r ≡ discarded k
+    pub too-long : {r : Done} → length ks ≡ entriesLimit → length ats ≡ entriesLimit → length ls ≡ entriesLimit → u ≡ false → r ≡ droppedOf k
         → AfterDelegate lows owners keys slots lens values k s lo hi list r lows owners keys slots lens values
     too-long ek ea el v e =
         let n = few-entries F f in

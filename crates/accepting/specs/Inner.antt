@@ -16,17 +16,13 @@ use Rattle.protocol.specs.Owners.{giving}
 use Rattle.protocol.specs.State.{Host, Letter}
 use Rattle.protocol.specs.Process.{onDelegate}
 use Rattle.hosts.specs.declared.State.{State}
-use Rattle.hosts.specs.declared.Processed.the-variants.{Dropped, Accepted}
+use Rattle.hosts.specs.declared.Processed.the-variants.{Accepted}
 use Rattle.hosts.specs.declared.Done.{Done}
 use Rattle.hosts.specs.Memory.{memory}
 use Rattle.hosts.specs.Limits.{Bounded}
 use Rattle.hosts.specs.Keeps.{Core}
-use Rattle.hosts.specs.Answers.{emptied, moved, Does}
-use Rattle.accepting.specs.Answers.{Filled}
-
--- nothing is done, and the room is free
-abbrev pub discarded : State → Done
-discarded k = record { state = emptied k; outcome = Dropped }
+use Rattle.hosts.specs.Answers.{moved, Does}
+use Rattle.delegates.specs.Answers.{Filled}
 
 -- ---- the transfer taken
 

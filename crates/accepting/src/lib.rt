@@ -7,12 +7,9 @@ use hosts::Processed;
 use hosts::State;
 use keys::Bound;
 use limits::ENTRIES_LIMIT;
-use limits::VALUE_MAX;
-use lists::RowRead;
 use message::ListView;
-ghost use mathlib.Core.Path.{_≡_};
-ghost use Rattle.accepting.specs.Answers.{AfterDelegate, Fine, AfterColumns};
-ghost use Rattle.accepting.specs.Inner.{discarded, AfterTake, AfterEntries};
+ghost use Rattle.accepting.specs.Answers.{AfterDelegate};
+ghost use Rattle.accepting.specs.Inner.{AfterTake, AfterEntries};
 
 // Processes the Delegate whose list stands in the datagram s.
 pub fn delegate(
@@ -33,15 +30,15 @@ pub fn delegate(
         (now (lens .exit)) (now (values .exit)) ⌝ }
 {
     let m = list.count as usize;
-    if !fine(k, lo, hi, m) {
-        return dropped(k);
+    if !delegates::fine(k, lo, hi, m) {
+        return hosts::dropped(k);
     }
     // the list as columns; it has fewer entries than they have places
     let mut ks = [0u64; ENTRIES_LIMIT];
     let mut ats = [0u64; ENTRIES_LIMIT];
     let mut ls = [0u64; ENTRIES_LIMIT];
-    if !columns(s, list.at, m, &mut ks, &mut ats, &mut ls) {
-        return dropped(k);
+    if !delegates::columns(s, list.at, m, &mut ks, &mut ats, &mut ls) {
+        return hosts::dropped(k);
     }
     take(
         lows,
@@ -59,57 +56,6 @@ pub fn delegate(
         &ls,
         m,
     )
-}
-
-// Has the range a key, are there few enough entries, and is the sender a host?
-pub fn fine(k: State, lo: Bound, hi: Bound, count: usize) -> bool
-    ensures { λ r. ⌜ Fine k lo hi count r ⌝ }
-{
-    if keys::is_empty(lo, hi) {
-        return false;
-    }
-    if ENTRIES_LIMIT <= count {
-        return false;
-    }
-    k.from < k.hosts
-}
-
-// Writes down the list's m entries as columns, unless a value is too long or a column too short.
-pub fn columns(
-    s: &[u8],
-    from: usize,
-    m: usize,
-    ks: &mut [u64],
-    ats: &mut [u64],
-    ls: &mut [u64],
-) -> bool
-    ensures { λ r. ⌜ AfterColumns (now (s .entry)) from m r (now (ks .exit)) (now (ats .exit)) (now (ls .exit)) ⌝ }
-{
-    if ks.len() < m {
-        return false;
-    }
-    if ats.len() < m {
-        return false;
-    }
-    if ls.len() < m {
-        return false;
-    }
-    let mut at = from;
-    let mut i: usize = 0;
-    while i < m {
-        let RowRead::Is(key, part) = lists::row(s, at) else {
-            return false;
-        };
-        if VALUE_MAX < part.len {
-            return false;
-        }
-        ks[i] = key;
-        ats[i] = part.at as u64;
-        ls[i] = part.len as u64;
-        at = part.at + part.len;
-        i += 1;
-    }
-    true
 }
 
 // Gives the range to the host and puts the entries in it. What does not fit is dropped: that never
@@ -136,7 +82,7 @@ fn take(
 {
     let set = grants::set(lows, owners, k.bounds, lo, hi, k.me as u64);
     let Changed::Bounds(bounds) = set else {
-        return dropped(k);
+        return hosts::dropped(k);
     };
     let replaced = entries::replace(
         keys,
@@ -164,18 +110,8 @@ fn taken(k: State, bounds: usize, replaced: Replaced) -> Done
             state: hosts::moved(k, bounds, entries),
             outcome: Processed::Accepted,
         },
-        Replaced::Full => dropped(k),
-        Replaced::TooLong => dropped(k),
-        Replaced::Malformed => dropped(k),
-    }
-}
-
-// Nothing is done, and the room is free.
-fn dropped(k: State) -> Done
-    ensures { λ r. ⌜ r ≡ discarded k ⌝ }
-{
-    Done {
-        state: hosts::emptied(k),
-        outcome: Processed::Dropped,
+        Replaced::Full => hosts::dropped(k),
+        Replaced::TooLong => hosts::dropped(k),
+        Replaced::Malformed => hosts::dropped(k),
     }
 }

@@ -26,7 +26,7 @@ use Rattle.hosts.specs.declared.State.{State}
 use Rattle.hosts.specs.Memory.{Memory, memory, nameAt}
 use Rattle.hosts.specs.Limits.{Needs}
 use Rattle.hosts.specs.Keeps.{Core, limitsOf, RoomCases}
-use Rattle.taking.specs.Answers.{Own}
+use Rattle.hearing.specs.Answers.{Own}
 use Rattle.rooms.specs.Answers.{Tested}
 use Rattle.audits_room.specs.Answers.{Valid}
 use Rattle.audits_room.specs.Inner.{Is, Held}

@@ -68,7 +68,7 @@ fn held(
         Parsed::Message(_, to, body) => {
             let at = to.at;
             let end = at + to.len;
-            if !taking::own(name_lens, names, k, &s[at..end]) {
+            if !hearing::own(name_lens, names, k, &s[at..end]) {
                 return false;
             }
             let verdict = rooms::roomy(

@@ -3,8 +3,7 @@
 use mathlib.Core.Path.{_≡_, refl, sym, ap, _∙_, subst}
 use mathlib.Core.Bool.{Bool, true, false, _||_, not}
 use mathlib.Core.List.{List}
-use Prim.Native.Nat.{ℕ, _≤_, _<_}
-use native.Mathlib.Nat.{mul-le-mul-right}
+use Prim.Native.Nat.{ℕ, _<_}
 use native.Mathlib.Omega.{arith}
 use lib.ListN.{length}
 use lib.Dec.{leb}
@@ -14,7 +13,6 @@ use Rattle.keys.specs.Bound.{below, holds}
 use Rattle.message.specs.Message.{Address}
 use Rattle.decoding.specs.Decode.{same}
 use Rattle.decoding.proofs.Decided.{same-refl}
-use Rattle.peers.specs.Names.{Keeps as KeepsNames}
 use Rattle.protocol.specs.Address.{among}
 use Rattle.protocol.specs.Records.{inRange}
 use Rattle.protocol.specs.Owners.{whole}
@@ -30,17 +28,6 @@ use Rattle.hosts.proofs.Names.{among-firsts, firsts-among}
 
 or-left : (s t : Bool) → s ≡ true → s || t ≡ true
 or-left s t e = rw e refl
-
--- fewer addresses are kept too
-pub keeps-fewer : {lens names : List ℕ} {w n hosts : ℕ} {N : ℕ → Address} → KeepsNames lens names w n N → hosts ≤ n → KeepsNames lens names w hosts N
-keeps-fewer {lens} {names} {w} {n} {hosts} K q = record {
-  wide = K .wide;
-  fits-lens = omega (arith, K .fits-lens, q);
-  fits-names = omega (arith, K .fits-names, mul-le-mul-right {m = hosts} {n = n} w q);
-  short = λ i h. K .short i (omega arith);
-  is = λ i h. K .is i (omega arith);
-  distinct = λ i j p r e. K .distinct i j (omega arith) (omega arith) e;
-}
 
 -- the Shard of [lo, hi) to the address a, at a host that memory keeps
 module _ (m : Memory) (k : State) (h : Host) (C : Core m k h) (lo hi : Bound) (a : Address) where

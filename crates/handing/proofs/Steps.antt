@@ -3,14 +3,13 @@
 use mathlib.Core.Path.{_≡_, refl, sym, ap, _∙_, subst}
 use mathlib.Core.Bool.{Bool, true, false}
 use mathlib.Core.List.{List}
-use Prim.Native.Nat.{ℕ, suc, min, _+_, _-_, _≤_, _<_}
+use Prim.Native.Nat.{ℕ, suc, min, _-_, _≤_, _<_}
 use native.Mathlib.Omega.{arith}
 use lib.ListN.{length, getD}
 use lib.Dec.{leb}
 use borrow.Author.Tests.{ltb-true, le-leb, lt-leb}
 use Rattle.limits.specs.Limits.{numbers, entriesLimit, transfersLimit}
 use Rattle.keys.specs.declared.Bound.{Bound}
-use Rattle.memory.specs.Bytes.{part}
 use Rattle.format.specs.declared.Part.{Part}
 use Rattle.message.specs.Message.{Address, delegate}
 use Rattle.message.specs.View.{bytesOf}
@@ -19,14 +18,10 @@ use Rattle.delegating.proofs.Entered.{entered-length}
 use Rattle.ranges.specs.declared.Picked.{Picked as Range}
 use Rattle.ranges.specs.declared.Picked.the-variants.{Count, NoRoom as TooMany}
 use Rattle.ranges.specs.Answers.{AfterPick as AfterRange}
-use Rattle.delegation.specs.declared.Changed.{Changed}
-use Rattle.delegation.specs.declared.Changed.the-variants.{Bounds, NoRoom}
-use Rattle.delegation.specs.Map.{room, AfterSet}
+use Rattle.delegation.specs.Map.{room}
 use Rattle.delegation.proofs.Laws.{keeps-cong, takes-unique}
-use Rattle.removals.specs.Answers.{AfterRemove}
 use Rattle.peers.specs.declared.Peer.{Peer}
 use Rattle.peers.specs.declared.Peer.the-variants.{Is, Unknown}
-use Rattle.peers.specs.Names.{AfterFind}
 use Rattle.posting.specs.declared.Picked.{Picked}
 use Rattle.posting.specs.declared.Picked.the-variants.{Place, NoNumber, NoPlace}
 use Rattle.posting.specs.Answers.{AfterPick}
@@ -38,75 +33,21 @@ use Rattle.protocol.specs.Process.{refused, onShard, handing}
 use Rattle.protocol.specs.Delivery.{numbered}
 use Rattle.hosts.specs.declared.State.{State}
 use Rattle.hosts.specs.declared.Done.{Done}
-use Rattle.hosts.specs.declared.Processed.the-variants.{Dropped, Unnumbered, Handed}
+use Rattle.hosts.specs.declared.Processed.the-variants.{Dropped, Unnumbered}
 use Rattle.hosts.specs.Memory.{memory}
 use Rattle.hosts.specs.Limits.{Bounded}
 use Rattle.hosts.specs.Keeps.{Core}
-use Rattle.hosts.specs.Answers.{emptied, moved, Does}
+use Rattle.hosts.specs.Answers.{emptied, moved, droppedOf, Does}
 use Rattle.hosts.proofs.Totals.{all-taken}
 use Rattle.hosts.proofs.Maps.{index-giving}
 use Rattle.hosts.proofs.Tables.{size-within}
 use Rattle.hosts.proofs.Core.{does-dropped}
 use Rattle.handing.specs.Answers.{Handable, AfterShard}
-use Rattle.handing.specs.Inner.{discarded, AfterRecipient, Mine, AfterOffer, AfterHand, AfterGive}
-use Rattle.handing.proofs.Refused.{keeps-fewer, refused-recipient, refused-range, refused-many}
+use Rattle.shards.specs.Answers.{AfterRecipient, Mine}
+use Rattle.giving.specs.Answers.{AfterGive}
+use Rattle.handing.specs.Inner.{AfterOffer, AfterHand}
+use Rattle.handing.proofs.Refused.{refused-recipient, refused-range, refused-many}
 use Rattle.handing.proofs.Handed.{entered-range, delegate-valid, delegate-short, handed, unhanded}
-
--- ---- the recipient
-
--- the part is the address
-address-is : (s : List ℕ) (to : Part) → part s (to .at) (to .at + to .len - to .at) ≡ bytesOf s to
-address-is s to = let e : to .at + to .len - to .at ≡ to .len = omega arith in ap (part s (to .at)) e
-
-module _ {lens names : List ℕ} {k : State} {s : List ℕ} {to : Part} {r : Peer}
-    (A : AfterFind lens names (k .width) (k .hosts) (part s (to .at) (to .at + to .len - to .at)) r) where
-  pub nobody : r ≡ Unknown → AfterRecipient lens names k s to Unknown
-  nobody e =
-      let B = subst (AfterFind lens names (k .width) (k .hosts) _) e A in
-      record { is = λ n N K q inside i p z. absurd (B .is N (keeps-fewer K q) i p (z ∙ sym (address-is s to))) }
-
-  pub myself : {i : ℕ} → r ≡ Is i → i ≡ k .me → AfterRecipient lens names k s to Unknown
-  myself {i} e me =
-      let B = subst (AfterFind lens names (k .width) (k .hosts) _) e A in
-      record {
-        is = λ n N K q inside j p z.
-            let w = B .is N (keeps-fewer K q) in
-            keeps-fewer K q .distinct j i p (w .0) (z ∙ sym (address-is s to) ∙ sym (w .1)) ∙ me;
-      }
-
-  pub another : {i : ℕ} → r ≡ Is i → (i ≡ k .me → ⊥) → AfterRecipient lens names k s to (Is i)
-  another {i} e me =
-      let B = subst (AfterFind lens names (k .width) (k .hosts) _) e A in
-      record { is = λ n N K q. let w = B .is N (keeps-fewer K q) in (w .0, w .1 ∙ address-is s to, me) }
-
--- ---- the range given away
-
-module _ {lows owners keys slots lows′ owners′ : List ℕ} {k : State} {lo hi : Bound} {i p : ℕ} {r : Changed}
-    (A : AfterSet lows owners (k .bounds) lo hi i r lows′ owners′) where
-  -- the map is full: that is never so
-  pub not-given : {d : Done} → r ≡ NoRoom → d ≡ discarded k → AfterGive lows owners keys slots k lo hi i p d lows′ owners′ keys slots
-  not-given {d} e z =
-      let B = subst (λ (x : Changed). AfterSet lows owners (k .bounds) lo hi i x lows′ owners′) e A in
-      record {
-        freed = ap (λ (x : Done). x .state .len) z;
-        is = λ lens values f T K L small fits. let w = B .is .2 f K in absurd (omega (arith, fits (w .0) (w .1), w .2));
-      }
-
-  pub given : {b n : ℕ} {keys′ slots′ : List ℕ} {t : State} → r ≡ Bounds b → AfterRemove keys slots (k .entries) lo hi n keys′ slots′ → t .len ≡ 0
-      → (suc (k .transfers) < numbers → t ≡ moved k b n)
-      → AfterGive lows owners keys slots k lo hi i p (record { state = t; outcome = Handed p }) lows′ owners′ keys′ slots′
-  given {b} {n} e R z M =
-      let B = subst (λ (x : Changed). AfterSet lows owners (k .bounds) lo hi i x lows′ owners′) e A in
-      record {
-        freed = z;
-        is = λ lens values f T K L small fits. record {
-          bounds = b;
-          entries = n;
-          answer = ap (λ (x : State). record { state = x; outcome = Handed p }) (M small);
-          map-kept = B .is f K;
-          table-kept = R .is lens values T L;
-        };
-      }
 
 -- ---- the range handed over
 
@@ -117,7 +58,7 @@ can-raise k x e q = omega (arith, e, q)
 module _ {lows owners keys slots values nameLens names counts places mail : List ℕ} {k : State} {lo hi : Bound} {i : ℕ} {ks ats ls : List ℕ} {m : ℕ}
     {r : Picked} (A : AfterPick counts places i r) where
   -- no place is free: that is never so
-  pub no-place : {d : Done} → r ≡ NoPlace → d ≡ discarded k
+  pub no-place : {d : Done} → r ≡ NoPlace → d ≡ droppedOf k
       → AfterHand lows owners keys slots values nameLens names counts places mail k lo hi i ks ats ls m d lows owners keys slots counts places mail
   no-place {d} e z =
       let B = subst (AfterPick counts places i) e A in
@@ -141,7 +82,7 @@ module _ {lows owners keys slots values nameLens names counts places mail : List
       (S : AfterSend nameLens names (k .width) counts places mail (k .size) i p x (λ n. Columns ks ats ls values m)
       (λ N. delegate lo hi (entered ks ats ls values 0 m)) t counts′ places′ mail′) where
     -- the Delegate is not written: that is never so
-    pub not-sent : {d : Done} → t ≡ false → d ≡ discarded k
+    pub not-sent : {d : Done} → t ≡ false → d ≡ droppedOf k
         → AfterHand lows owners keys slots values nameLens names counts places mail k lo hi i ks ats ls m d lows owners keys slots counts′ places′ mail′
     not-sent {d} u z =
         let B = subst (AfterPick counts places i) e A in
@@ -200,7 +141,7 @@ module _ {lows owners keys slots values nameLens names counts places mail : List
 module _ {lows owners keys slots lens values nameLens names counts places mail : List ℕ} {k : State} {lo hi : Bound} {i : ℕ}
     {ks ats ls ks′ ats′ ls′ : List ℕ} {r : Range} (A : AfterRange keys slots lens values (k .entries) lo hi ks ats ls r ks′ ats′ ls′) where
   -- they are too many
-  pub too-many : {d : Done} → r ≡ TooMany → entriesLimit ≤ suc (min (length ks) (min (length ats) (length ls))) → d ≡ discarded k
+  pub too-many : {d : Done} → r ≡ TooMany → entriesLimit ≤ suc (min (length ks) (min (length ats) (length ls))) → d ≡ droppedOf k
       → AfterOffer lows owners keys slots lens values nameLens names counts places mail k lo hi i d lows owners keys slots counts places mail
   too-many {d} e q z =
       let B = subst (λ (x : Range). AfterRange keys slots lens values (k .entries) lo hi ks ats ls x ks′ ats′ ls′) e A in
@@ -252,7 +193,7 @@ module _ {lows owners keys slots lens values nameLens names counts places mail :
 
 module _ {lows owners keys slots lens values nameLens names counts places mail : List ℕ} {k : State} {s : List ℕ} {lo hi : Bound} {to : Part} where
   -- a Shard that is refused is dropped
-  drop : {d : Done} → d ≡ discarded k
+  drop : {d : Done} → d ≡ droppedOf k
       → ((h : Host) → Core (memory lows owners keys slots lens values nameLens names counts places mail) k h → (l : Letter)
       → Handable lows owners places s lo hi to h l → refused h lo hi (bytesOf s to) ≡ true)
       → AfterShard lows owners keys slots lens values nameLens names counts places mail k s lo hi to d lows owners keys slots counts places mail
@@ -268,14 +209,14 @@ module _ {lows owners keys slots lens values nameLens names counts places mail :
       }
 
   module _ {r : Peer} (A : AfterRecipient nameLens names k s to r) where
-    pub shard-nobody : {d : Done} → r ≡ Unknown → d ≡ discarded k
+    pub shard-nobody : {d : Done} → r ≡ Unknown → d ≡ droppedOf k
         → AfterShard lows owners keys slots lens values nameLens names counts places mail k s lo hi to d lows owners keys slots counts places mail
     shard-nobody e z =
         let B = subst (AfterRecipient nameLens names k s to) e A in
         drop z (λ h C l n. refused-recipient _ k h C lo hi (bytesOf s to) (B .is (k .peers) (C .N) (C .names-kept) (C .says .few) (n .inside)))
 
   module _ {t : Bool} (A : Mine lows owners k lo hi t) where
-    pub shard-other : {d : Done} → t ≡ false → d ≡ discarded k
+    pub shard-other : {d : Done} → t ≡ false → d ≡ droppedOf k
         → AfterShard lows owners keys slots lens values nameLens names counts places mail k s lo hi to d lows owners keys slots counts places mail
     shard-other e z = drop z (λ h C l n. refused-range _ k h C lo hi (bytesOf s to) (λ b. A .no e b (C .f) (C .map-kept)))
 

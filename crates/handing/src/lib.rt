@@ -1,7 +1,6 @@
 // A range that is handed over: the row of the Shard in document 01, section 5. The range becomes the
 // recipient's, and its entries go there in a Delegate that waits until it is acknowledged. The room test
 // has made sure that there is room.
-use delegation::Changed;
 use format::Part;
 use hosts::Done;
 use hosts::Processed;
@@ -10,9 +9,8 @@ use keys::Bound;
 use limits::ENTRIES_LIMIT;
 use peers::Peer;
 use posting::Picked;
-ghost use mathlib.Core.Path.{_≡_};
 ghost use Rattle.handing.specs.Answers.{AfterShard};
-ghost use Rattle.handing.specs.Inner.{discarded, AfterRecipient, HasKey, Mine, AfterOffer, AfterHand, AfterGive};
+ghost use Rattle.handing.specs.Inner.{AfterOffer, AfterHand};
 
 // Processes the Shard whose recipient's address stands in the datagram s. The Delegate is put into the place
 // of the hint, if that is free.
@@ -40,11 +38,11 @@ pub fn shard(
         k (now (s .entry)) lo hi to r (now (lows .exit)) (now (owners .exit)) (now (keys .exit)) (now (slots .exit)) (now (counts .exit))
         (now (places .exit)) (now (mail .exit)) ⌝ }
 {
-    let Peer::Is(i) = recipient(name_lens, names, k, s, to) else {
-        return dropped(k);
+    let Peer::Is(i) = shards::recipient(name_lens, names, k, s, to) else {
+        return hosts::dropped(k);
     };
-    if !all_mine(lows, owners, k, lo, hi) {
-        return dropped(k);
+    if !shards::all_mine(lows, owners, k, lo, hi) {
+        return hosts::dropped(k);
     }
     offer(
         lows,
@@ -64,50 +62,6 @@ pub fn shard(
         i,
         hint,
     )
-}
-
-// The number of the host that is to get the range: any but this one.
-fn recipient(name_lens: &[u64], names: &[u8], k: State, s: &[u8], to: Part) -> Peer
-    ensures { λ r. ⌜ AfterRecipient (now («name_lens» .entry)) (now (names .entry)) k (now (s .entry)) to r ⌝ }
-{
-    let from = to.at;
-    if s.len() < from {
-        return Peer::Unknown;
-    }
-    if s.len() - from < to.len {
-        return Peer::Unknown;
-    }
-    let end = from + to.len;
-    let Peer::Is(i) = peers::find(name_lens, names, k.width, k.hosts, &s[from..end]) else {
-        return Peer::Unknown;
-    };
-    if i == k.me {
-        return Peer::Unknown;
-    }
-    Peer::Is(i)
-}
-
-// Has the range a key, and is every key of it this host's?
-fn all_mine(lows: &[u64], owners: &[u64], k: State, lo: Bound, hi: Bound) -> bool
-    ensures { λ r. ⌜ Mine (now (lows .entry)) (now (owners .entry)) k lo hi r ⌝ }
-{
-    if !some_key(lo, hi) {
-        return false;
-    }
-    plans::whole(lows, owners, k.bounds, lo, hi, k.me as u64)
-}
-
-// Has the range a key? If so, its bounds can be written: a key has 64 bits.
-fn some_key(lo: Bound, hi: Bound) -> bool
-    ensures { λ r. ⌜ HasKey lo hi r ⌝ }
-{
-    match lo {
-        Bound::Key(from) => match hi {
-            Bound::Key(to) => from < to,
-            Bound::End => true,
-        },
-        Bound::End => false,
-    }
 }
 
 // Picks the range's entries out and hands them over to host i, unless they are too many.
@@ -149,7 +103,7 @@ fn offer(
         &mut ats,
         &mut ls,
     ) else {
-        return dropped(k);
+        return hosts::dropped(k);
     };
     hand(
         lows,
@@ -224,50 +178,14 @@ fn hand(
                 values,
             );
             if !sent {
-                return dropped(k);
+                return hosts::dropped(k);
             }
-            give(lows, owners, keys, slots, k, lo, hi, peer, p)
+            giving::give(lows, owners, keys, slots, k, lo, hi, peer, p)
         }
         Picked::NoNumber => Done {
             state: hosts::moved(k, k.bounds, k.entries),
             outcome: Processed::Unnumbered,
         },
-        Picked::NoPlace => dropped(k),
-    }
-}
-
-// Gives the range to host i and takes its entries out; the Delegate waits in place p.
-fn give(
-    lows: &mut [u64],
-    owners: &mut [u64],
-    keys: &mut [u64],
-    slots: &mut [u64],
-    k: State,
-    lo: Bound,
-    hi: Bound,
-    i: usize,
-    p: usize,
-) -> Done
-    ensures { λ r. ⌜ AfterGive (now (lows .entry)) (now (owners .entry)) (now (keys .entry)) (now (slots .entry)) k lo hi i p r
-        (now (lows .exit)) (now (owners .exit)) (now (keys .exit)) (now (slots .exit)) ⌝ }
-{
-    let set = grants::set(lows, owners, k.bounds, lo, hi, i as u64);
-    let Changed::Bounds(bounds) = set else {
-        return dropped(k);
-    };
-    let entries = removals::remove(keys, slots, k.entries, lo, hi);
-    Done {
-        state: hosts::moved(k, bounds, entries),
-        outcome: Processed::Handed(p),
-    }
-}
-
-// Nothing is done, and the room is free.
-fn dropped(k: State) -> Done
-    ensures { λ r. ⌜ r ≡ discarded k ⌝ }
-{
-    Done {
-        state: hosts::emptied(k),
-        outcome: Processed::Dropped,
+        Picked::NoPlace => hosts::dropped(k),
     }
 }

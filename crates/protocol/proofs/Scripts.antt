@@ -6,8 +6,9 @@ use mathlib.Core.List.{List, [], _∷_, _++_}
 use mathlib.Core.Option.{Option, none, some}
 use Prim.Native.Nat.{ℕ, zero, suc, _-_}
 use Rattle.keys.specs.declared.Bound.the-variants.{Key, End}
-use Rattle.limits.specs.Limits.{valueMax, transfersLimit}
+use Rattle.limits.specs.Limits.{valueMax, entriesLimit, transfersLimit}
 use Rattle.format.specs.Number.{numbers, digits, worth}
+use Rattle.format.specs.Format.{Entry}
 use Rattle.message.specs.Message.{Address, Datagram, get, set, reply, redirect, shard, delegate, message, ack}
 use Rattle.message.specs.Table.{written}
 use Rattle.decoding.specs.Decode.{listOf, valueOf}
@@ -180,6 +181,34 @@ dropping-after : (after dropping (fresh A hosts A) .records ≡ []) × (after dr
     × (ownerOf (after dropping (fresh A hosts A) .owners) 5 ≡ A) × (after dropping (fresh A hosts A) .acknowledged C ≡ 1)
 unfolding dropping zeros after step listOf valueOf worth digits
 dropping-after = (refl, refl, refl, refl)
+
+-- ---- the limit on entries: a transfer of that many is neither taken nor made, and one of one fewer is
+
+-- n entries, their keys from k on
+rows : ℕ → ℕ → List Entry
+rows k zero = []
+rows k (suc n) = record { key = k; value = [] } ∷ rows (suc k) n
+
+-- a host brings a Delegate of n entries
+filling : ℕ → List Event
+filling n = bring B (message 1 A (delegate (Key 0) End (rows 0 n))) ∷ work ∷ []
+
+-- a host has n entries and is asked for all of them
+stocked : ℕ → Host
+stocked n = done (record { first = A; grants = [] }) (rows 0 n) 1 (fresh A hosts A)
+
+emptying : List Event
+emptying = bring C (message 1 A (shard (Key 0) End B)) ∷ work ∷ []
+
+filling-outcomes : (outcomes (filling entriesLimit) (fresh B hosts A) ≡ taken ∷ dropped ∷ [])
+    × (outcomes (filling (entriesLimit - 1)) (fresh B hosts A) ≡ taken ∷ accepted ∷ [])
+unfolding filling rows outcomes step listOf valueOf worth digits
+filling-outcomes = (refl, refl)
+
+emptying-outcomes : (outcomes emptying (stocked entriesLimit) ≡ taken ∷ dropped ∷ [])
+    × (outcomes emptying (stocked (entriesLimit - 1)) ≡ taken ∷ handed ∷ [])
+unfolding emptying stocked rows outcomes step listOf valueOf worth digits
+emptying-outcomes = (refl, refl)
 
 -- numbers that ran out: a request is not executed, and a Shard only raises the count
 late : Host

@@ -6,11 +6,11 @@ use format::WIDTH;
 use hosts::State;
 use message::BodyView;
 use message::Parsed;
+use sorting::Kind;
 use taking::Taken as Took;
 ghost use mathlib.Core.Path.{_≡_};
 ghost use mathlib.Core.List.{List};
 ghost use Prim.Native.Nat.{ℕ};
-ghost use Rattle.message.specs.View.{PartIn};
 ghost use Rattle.message.specs.Answers.{AfterParse};
 ghost use Rattle.message.specs.declared.Parsed.the-variants.{Message};
 ghost use Rattle.hosts.specs.Memory.{memory};
@@ -134,43 +134,37 @@ fn message(
     to: Part,
     body: BodyView,
 ) -> Arrival
-    requires { ⌜ PartIn (now s) to ⌝ }
     ensures { λ r. ⌜ ((lens values mail : List ℕ) → Handled (λ h. AfterParse (now (s .entry)) (Message n to body)) (memory (now (lows .entry)) (now (owners .entry)) (now (keys .entry)) (now (slots .entry)) lens values (now («name_lens» .entry)) (now (names .entry)) (now (counts .entry)) (now (places .entry)) mail)
         k (now (room .entry)) (now (from .entry)) (now (s .entry)) (now (ack .entry)) r
         (memory (now (lows .entry)) (now (owners .entry)) (now (keys .entry)) (now (slots .entry)) lens values (now («name_lens» .exit)) (now (names .exit)) (now (counts .exit)) (now (places .entry)) mail) (now (room .exit)) (now (ack .exit))) ⌝ }
 {
-    let at = to.at;
-    let end = at + to.len;
-    if !taking::own(name_lens, names, k, &s[at..end]) {
-        return left(k, Received::Elsewhere);
+    let kind = sorting::sort(name_lens, names, counts, k, from, s, n, to);
+    match kind {
+        Kind::Elsewhere => left(k, Received::Elsewhere),
+        Kind::Again => {
+            composing::ack(n, ack);
+            left(k, Received::Again)
+        }
+        Kind::Future => left(k, Received::Future),
+        Kind::Next(peer) => fresh(
+            lows,
+            owners,
+            keys,
+            slots,
+            name_lens,
+            names,
+            counts,
+            places,
+            room,
+            ack,
+            k,
+            from,
+            s,
+            n,
+            body,
+            peer,
+        ),
     }
-    let heard = taking::last(name_lens, names, counts, k, from);
-    let last = heard.number;
-    if n <= last {
-        composing::ack(n, ack);
-        return left(k, Received::Again);
-    }
-    if n - last != 1 {
-        return left(k, Received::Future);
-    }
-    fresh(
-        lows,
-        owners,
-        keys,
-        slots,
-        name_lens,
-        names,
-        counts,
-        places,
-        room,
-        ack,
-        k,
-        from,
-        s,
-        n,
-        body,
-        heard.peer,
-    )
 }
 
 // The next message from its sender, for this host, is taken and acknowledged, if there is room for it. The

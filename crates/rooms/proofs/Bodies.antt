@@ -1,17 +1,13 @@
 -- The room test of a body, by its kind.
 -- Assumes nothing.
-use mathlib.Core.Path.{_≡_, refl, sym, ap, _∙_, subst}
+use mathlib.Core.Path.{_≡_, sym, _∙_, subst}
 use mathlib.Core.Bool.{Bool, true, false, true≢false, false≢true}
 use mathlib.Core.List.{List}
 use Prim.Native.Nat.{ℕ}
-use lib.Dec.{ltb}
-use Rattle.limits.specs.Limits.{valueMax}
 use Rattle.keys.specs.declared.Bound.{Bound}
-use Rattle.memory.proofs.Parts.{length-part}
 use Rattle.format.specs.declared.Part.{Part}
 use Rattle.message.specs.Message.{Address}
 use Rattle.message.specs.declared.ValueView.{ValueView}
-use Rattle.message.specs.declared.ValueView.the-variants.{None, At}
 use Rattle.message.specs.declared.ListView.{ListView}
 use Rattle.message.specs.declared.BodyView.{BodyView}
 use Rattle.message.specs.declared.BodyView.the-variants.{Get, Set, Reply, Redirect, Shard, Delegate}
@@ -22,8 +18,9 @@ use Rattle.posting.proofs.Laws.{free-as}
 use Rattle.hosts.specs.declared.State.{State}
 use Rattle.hosts.specs.Memory.{memory}
 use Rattle.hosts.proofs.Totals.{free-place, all-taken}
+use Rattle.sets.specs.Answers.{TooLong}
 use Rattle.rooms.specs.Answers.{Tested}
-use Rattle.rooms.specs.Inner.{Vacant, TooLong, ShardTested, DelegateTested}
+use Rattle.rooms.specs.Inner.{Vacant, ShardTested, DelegateTested}
 
 -- ---- a free place
 
@@ -32,16 +29,6 @@ vacant-at {p = p} A e = record { yes = λ y. (p, free-as e A .is); no = λ n. ab
 
 pub vacant-nowhere : {places : List ℕ} {r : Vacancy} → AfterFree places r → r ≡ Nowhere → Vacant places false
 vacant-nowhere A e = record { yes = λ y. absurd (false≢true y); no = λ n. free-as e A .is }
-
--- ---- the length of a value
-
-pub no-value : {v : ValueView} → v ≡ None → TooLong v false
-no-value e = subst (λ (v : ValueView). TooLong v false) (sym e) (record { is = λ s i. refl })
-
-pub value-at : {v : ValueView} {p : Part} → v ≡ At p → TooLong v (ltb valueMax (p .len))
-value-at {p = p} e =
-    subst (λ (v : ValueView). TooLong v (ltb valueMax (p .len))) (sym e)
-    (record { is = λ s i. ap (ltb valueMax) (sym (length-part s (p .at) (p .len) i)) })
 
 -- ---- the kinds
 

@@ -37,11 +37,12 @@ use Rattle.hosts.proofs.Core.{name-is}
 use Rattle.hosts.proofs.Arrivals.{find-as}
 use Rattle.hosts.proofs.Maps.{left-bounded, bounded-left}
 use Rattle.hosts.proofs.Tables.{size-replaced}
-use Rattle.accepting.specs.Answers.{Fine, AfterColumns}
+use Rattle.delegates.specs.Answers.{Fine, AfterColumns}
 use Rattle.accepting.proofs.Laws.{filled-listed}
 use Rattle.accepting.proofs.Together.{es, few-entries, unfit-as}
-use Rattle.rooms.specs.Inner.{Fits, heard, DelegateTested}
-use Rattle.rooms.proofs.Refused.{keeps-fewer}
+use Rattle.shards.specs.Answers.{Fits}
+use Rattle.rooms.specs.Inner.{heard, DelegateTested}
+use Rattle.shards.proofs.Laws.{keeps-fewer}
 
 module _ (m : Memory) (k : State) (h : Host) (C : Core m k h) where
   -- whom the host hears from is not in what memory keeps

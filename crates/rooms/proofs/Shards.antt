@@ -3,18 +3,15 @@
 use mathlib.Core.Path.{_≡_, sym, _∙_, subst}
 use mathlib.Core.Bool.{Bool, true, false, true≢false, false≢true}
 use mathlib.Core.List.{List}
-use Prim.Native.Nat.{ℕ, _+_, _-_, _<_}
+use Prim.Native.Nat.{ℕ, _<_}
 use native.Mathlib.Omega.{arith}
 use Rattle.keys.specs.declared.Bound.{Bound}
-use Rattle.memory.specs.Bytes.{part}
-use Rattle.memory.proofs.Parts.{part-taken}
 use Rattle.format.specs.declared.Part.{Part}
 use Rattle.message.specs.Message.{Address}
 use Rattle.message.specs.View.{bytesOf, PartIn}
 use Rattle.delegation.specs.Map.{room}
 use Rattle.peers.specs.declared.Peer.{Peer}
 use Rattle.peers.specs.declared.Peer.the-variants.{Is, Unknown}
-use Rattle.peers.specs.Names.{AfterFind}
 use Rattle.protocol.specs.Owners.{giving}
 use Rattle.protocol.specs.State.{Host}
 use Rattle.protocol.specs.Process.{refused}
@@ -22,38 +19,12 @@ use Rattle.hosts.specs.declared.State.{State}
 use Rattle.hosts.specs.Memory.{memory}
 use Rattle.hosts.specs.Limits.{Bounded}
 use Rattle.hosts.specs.Keeps.{Core}
-use Rattle.hosts.proofs.Arrivals.{find-as}
 use Rattle.hosts.proofs.Totals.{free-place, all-taken}
 use Rattle.hosts.proofs.Maps.{left-bounded, bounded-left}
-use Rattle.rooms.specs.Inner.{Vacant, Fits, AfterRecipient, Movable, ShardTested}
-use Rattle.rooms.proofs.Refused.{keeps-fewer, refused-recipient, refused-range, not-refused}
-
--- ---- the recipient
-
-module _ {lens names : List ℕ} {k : State} {s : List ℕ} {to : Part} where
-  module _ {r : Peer} (A : AfterFind lens names (k .width) (k .hosts) (part s (to .at) (to .at + to .len - to .at)) r) where
-    pub nobody : r ≡ Unknown → AfterRecipient lens names k s to Unknown
-    nobody e = record {
-      is = λ n N K q inside i p z.
-          absurd (find-as e A .is N (keeps-fewer K q) i p (z ∙ sym (part-taken s (to .at) (to .len))));
-    }
-
-    pub myself : {i : ℕ} → r ≡ Is i → i ≡ k .me → AfterRecipient lens names k s to Unknown
-    myself {i} e me = record {
-      is = λ n N K q inside j p z.
-          let w = find-as e A .is N (keeps-fewer K q) in
-          keeps-fewer K q .distinct j i p (w .0) (z ∙ sym (part-taken s (to .at) (to .len)) ∙ sym (w .1)) ∙ me;
-    }
-
-    pub another : {i : ℕ} → r ≡ Is i → (i ≡ k .me → ⊥) → AfterRecipient lens names k s to (Is i)
-    another e me = record {
-      is = λ n N K q. let w = find-as e A .is N (keeps-fewer K q) in (w .0, w .1 ∙ part-taken s (to .at) (to .len), me);
-    }
-
-  recipient-as : {r q : Peer} → r ≡ q → AfterRecipient lens names k s to r → AfterRecipient lens names k s to q
-  recipient-as e A = subst (λ (x : Peer). AfterRecipient lens names k s to x) e A
-
--- ---- the Shard
+use Rattle.shards.specs.Answers.{Fits, AfterRecipient, Movable}
+use Rattle.shards.proofs.Laws.{recipient-as}
+use Rattle.rooms.specs.Inner.{Vacant, ShardTested}
+use Rattle.rooms.proofs.Refused.{refused-recipient, refused-range, not-refused}
 
 module _ {lows owners keys nameLens names places : List ℕ} {k : State} {s : List ℕ} {lo hi : Bound} {to : Part} where
   -- what was said of an answer holds of one that is equal to it

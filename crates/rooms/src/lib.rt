@@ -5,15 +5,13 @@ use format::Part;
 use hosts::State;
 use keys::Bound;
 use limits::ENTRIES_LIMIT;
-use limits::VALUE_MAX;
 use message::BodyView;
 use message::ListView;
-use message::ValueView;
 use peers::Peer;
 use posting::Vacancy;
 ghost use mathlib.Core.Path.{_≡_};
 ghost use Rattle.rooms.specs.Answers.{Tested};
-ghost use Rattle.rooms.specs.Inner.{Vacant, TooLong, AfterRecipient, Movable, Fits, heard, ShardTested, DelegateTested};
+ghost use Rattle.rooms.specs.Inner.{Vacant, heard, ShardTested, DelegateTested};
 
 // Is there room? The place is a hint, where one was found free; if none was looked for, it says nothing.
 pub struct Verdict {
@@ -40,7 +38,7 @@ pub fn roomy(
     match body {
         BodyView::Get(_) => vacant(places),
         BodyView::Set(_, v) => {
-            if too_long(v) {
+            if sets::too_long(v) {
                 return without_place(true);
             }
             vacant(places)
@@ -100,16 +98,6 @@ fn vacant(places: &[u64]) -> Verdict
     }
 }
 
-// Is the value longer than a table keeps?
-fn too_long(v: ValueView) -> bool
-    ensures { λ r. ⌜ TooLong v r ⌝ }
-{
-    match v {
-        ValueView::None => false,
-        ValueView::At(part) => VALUE_MAX < part.len,
-    }
-}
-
 // A Shard that would be refused needs nothing; another needs a place for the Delegate, and room in the map.
 fn shard(
     lows: &[u64],
@@ -127,10 +115,10 @@ fn shard(
     ensures { λ r. ⌜ ShardTested (now (lows .entry)) (now (owners .entry)) (now (keys .entry)) (now («name_lens» .entry))
         (now (names .entry)) (now (places .entry)) k (now (s .entry)) lo hi to (r .room) ⌝ }
 {
-    let Peer::Is(i) = recipient(name_lens, names, k, s, to) else {
+    let Peer::Is(i) = shards::recipient(name_lens, names, k, s, to) else {
         return without_place(true);
     };
-    if !movable(lows, owners, keys, k, lo, hi) {
+    if !shards::movable(lows, owners, keys, k, lo, hi) {
         return without_place(true);
     }
     let free = vacant(places);
@@ -138,54 +126,9 @@ fn shard(
         return free;
     }
     Verdict {
-        room: fits(lows, owners, k.bounds, lo, hi, i),
+        room: shards::fits(lows, owners, k.bounds, lo, hi, i),
         place: free.place,
     }
-}
-
-// The number of the host that is to get the range: any but this one.
-fn recipient(name_lens: &[u64], names: &[u8], k: State, s: &[u8], to: Part) -> Peer
-    ensures { λ r. ⌜ AfterRecipient (now («name_lens» .entry)) (now (names .entry)) k (now (s .entry)) to r ⌝ }
-{
-    let from = to.at;
-    if s.len() < from {
-        return Peer::Unknown;
-    }
-    if s.len() - from < to.len {
-        return Peer::Unknown;
-    }
-    let end = from + to.len;
-    let Peer::Is(i) = peers::find(name_lens, names, k.width, k.hosts, &s[from..end]) else {
-        return Peer::Unknown;
-    };
-    if i == k.me {
-        return Peer::Unknown;
-    }
-    Peer::Is(i)
-}
-
-// Has the range a key, is every key of it this host's, and has it few enough entries for a transfer?
-fn movable(lows: &[u64], owners: &[u64], keys: &[u64], k: State, lo: Bound, hi: Bound) -> bool
-    ensures { λ r. ⌜ Movable (now (lows .entry)) (now (owners .entry)) (now (keys .entry)) k lo hi r ⌝ }
-{
-    if keys::is_empty(lo, hi) {
-        return false;
-    }
-    if !plans::whole(lows, owners, k.bounds, lo, hi, k.me as u64) {
-        return false;
-    }
-    counts::count(keys, k.entries, lo, hi) < ENTRIES_LIMIT
-}
-
-// Does the map fit what is lent, once the range is given to host i?
-fn fits(lows: &[u64], owners: &[u64], bounds: usize, lo: Bound, hi: Bound, i: usize) -> bool
-    ensures { λ r. ⌜ Fits (now (lows .entry)) (now (owners .entry)) bounds lo hi i r ⌝ }
-{
-    let after = grants::bounds_after(lows, owners, bounds, lo, hi, i as u64);
-    if lows.len() < after {
-        return false;
-    }
-    after <= owners.len()
 }
 
 // A Delegate that would be dropped needs nothing; another needs room in the map and in the table.
@@ -210,16 +153,16 @@ fn delegate(
         return true;
     };
     let m = list.count as usize;
-    if !accepting::fine(heard(k, i), lo, hi, m) {
+    if !delegates::fine(heard(k, i), lo, hi, m) {
         return true;
     }
     let mut ks = [0u64; ENTRIES_LIMIT];
     let mut ats = [0u64; ENTRIES_LIMIT];
     let mut ls = [0u64; ENTRIES_LIMIT];
-    if !accepting::columns(s, list.at, m, &mut ks, &mut ats, &mut ls) {
+    if !delegates::columns(s, list.at, m, &mut ks, &mut ats, &mut ls) {
         return true;
     }
-    if !fits(lows, owners, k.bounds, lo, hi, k.me) {
+    if !shards::fits(lows, owners, k.bounds, lo, hi, k.me) {
         return false;
     }
     counts::left(keys, k.entries, lo, hi, &ks, m) <= slots.len()

@@ -1,19 +1,16 @@
 -- A Set is the definition's step: dropped, referred to the owner, or carried out.
 -- Assumes nothing.
 use mathlib.Core.Path.{_≡_, refl, sym, ap, _∙_, subst}
-use mathlib.Core.Bool.{Bool, true, false, true≢false}
+use mathlib.Core.Bool.{Bool, true, false}
 use mathlib.Core.List.{List}
 use mathlib.Core.Option.{Option, some}
-use Prim.Native.Nat.{ℕ, _+_, _-_, _≤_, _<_}
-use native.Mathlib.Omega.{arith}
+use Prim.Native.Nat.{ℕ, _+_, _-_, _≤_}
 use lib.ListN.{length, take, drop}
-use borrow.Author.Tests.{lt-ltb, le-ltb}
-use Rattle.limits.specs.Limits.{valueMax}
-use Rattle.memory.proofs.Parts.{length-part, part-taken}
+use Rattle.memory.proofs.Parts.{part-taken}
 use Rattle.format.specs.declared.Part.{Part}
 use Rattle.message.specs.declared.ValueView.{ValueView}
-use Rattle.message.specs.declared.ValueView.the-variants.{None, At}
-use Rattle.message.specs.View.{bytesOf, valueOf, ValueIn}
+use Rattle.message.specs.declared.ValueView.the-variants.{At}
+use Rattle.message.specs.View.{valueOf, ValueIn}
 use Rattle.delegation.specs.Map.{Owner}
 use Rattle.decoding.specs.Decode.{same}
 use Rattle.posting.specs.declared.Picked.the-variants.{Place, NoNumber, NoPlace}
@@ -34,27 +31,8 @@ use Rattle.hosts.proofs.Core.{mailed, does-dropped, unanswered, no-number}
 use Rattle.referring.specs.Answers.{AfterRefer}
 use Rattle.getting.proofs.Laws.{mine, other}
 use Rattle.storing.specs.Answers.{AfterStore}
-use Rattle.setting.specs.Answers.{AfterSet, AfterSettle, Sound, IsSound}
-
--- ---- is the value sound?
-
-pub none-sound : {s : List ℕ} {v : ValueView} → v ≡ None → IsSound s v true
-none-sound {s} e = subst (λ (v : ValueView). IsSound s v true) (sym e) (record { yes = λ q. record { inside = tt; short = refl }; other = λ q. absurd (true≢false q) })
-
-module _ {s : List ℕ} {v : ValueView} {part : Part} (e : v ≡ At part) where
-  pub outside : length s < part .at + part .len → IsSound s v false
-  outside h =
-      subst (λ (v : ValueView). IsSound s v false) (sym e)
-      (record { yes = λ q. absurd (true≢false (sym q)); other = λ q i. absurd (omega (arith, h, i)) })
-
-  pub by-length : part .at + part .len ≤ length s → (r : Bool) → (r ≡ true → part .len ≤ valueMax) → (r ≡ false → valueMax < part .len) → IsSound s v r
-  by-length i r under over =
-      let n = length-part s (part .at) (part .len) i in
-      subst (λ (v : ValueView). IsSound s v r) (sym e)
-      (record {
-        yes = λ q. record { inside = i; short = le-ltb valueMax (length (bytesOf s part)) (omega (arith, n, under q)) };
-        other = λ q j. lt-ltb valueMax (length (bytesOf s part)) (omega (arith, n, over q));
-      })
+use Rattle.sets.specs.Answers.{Sound, IsSound}
+use Rattle.setting.specs.Answers.{AfterSet, AfterSettle}
 
 -- ---- a value that is not too long, from a place and a number that were picked
 

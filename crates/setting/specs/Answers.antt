@@ -1,7 +1,7 @@
 -- What carrying a Set out answers.
 -- Assumes nothing.
 use mathlib.Core.Path.{_≡_}
-use mathlib.Core.Bool.{Bool, true, false}
+use mathlib.Core.Bool.{false}
 use mathlib.Core.List.{List}
 use Prim.Native.Nat.{ℕ, _<_}
 use Rattle.message.specs.declared.ValueView.{ValueView}
@@ -28,13 +28,3 @@ pub record AfterSet (m : Memory) (k : State) (s : List ℕ) (key : ℕ) (v : Val
 -- the same for a value that is not too long, from a place and a number that were picked
 pub record AfterSettle (m : Memory) (k : State) (s : List ℕ) (key : ℕ) (v : ValueView) (p x : ℕ) (r : Done) (m′ : Memory) : Type 0 where
   pub is : AfterRow m k (λ h l. Picked m k p x h) (row m key (valueOf s v)) r m′
-
--- the value stands in the datagram and is not too long
-pub record Sound (s : List ℕ) (v : ValueView) : Type 0 where
-  pub inside : ValueIn s v
-  pub short : long (valueOf s v) ≡ false
-
--- r says whether it does and is
-pub record IsSound (s : List ℕ) (v : ValueView) (r : Bool) : Type 0 where
-  pub yes : r ≡ true → Sound s v
-  pub other : r ≡ false → ValueIn s v → long (valueOf s v) ≡ true

@@ -4,11 +4,11 @@
 use hosts::Done;
 use hosts::Processed;
 use hosts::State;
-use limits::VALUE_MAX;
 use message::ValueView;
 use posting::Picked;
 ghost use Rattle.hosts.specs.Memory.{memory};
-ghost use Rattle.setting.specs.Answers.{AfterSet, AfterSettle, Sound, IsSound};
+ghost use Rattle.sets.specs.Answers.{Sound};
+ghost use Rattle.setting.specs.Answers.{AfterSet, AfterSettle};
 
 // Processes the Set of a key, whose value stands in the datagram s. The answer is put into the place of the
 // hint, if that is free.
@@ -34,7 +34,7 @@ pub fn set(
         k (now (s .entry)) key v r
         (memory (now (lows .entry)) (now (owners .entry)) (now (keys .exit)) (now (slots .exit)) (now (lens .exit)) (now (values .exit)) (now («name_lens» .entry)) (now (names .entry)) (now (counts .exit)) (now (places .exit)) (now (mail .exit))) ⌝ }
 {
-    if !sound(s, v) {
+    if !sets::sound(s, v) {
         return hosts::dropped(k);
     }
     let picked = posting::pick(counts, places, k.from, hint);
@@ -60,24 +60,6 @@ pub fn set(
         ),
         Picked::NoNumber => hosts::answered(k, false, Processed::Dropped),
         Picked::NoPlace => hosts::answered(k, false, Processed::Dropped),
-    }
-}
-
-// Does the value stand in the datagram, and is it not too long?
-fn sound(s: &[u8], v: ValueView) -> bool
-    ensures { λ r. ⌜ IsSound (now (s .entry)) v r ⌝ }
-{
-    match v {
-        ValueView::None => true,
-        ValueView::At(part) => {
-            if s.len() < part.at {
-                return false;
-            }
-            if s.len() - part.at < part.len {
-                return false;
-            }
-            part.len <= VALUE_MAX
-        }
     }
 }
 

@@ -1,7 +1,7 @@
 -- Lent memory keeps the host that has started: the list of addresses judged and written down, and what each layer holds at first.
 -- Assumes nothing.
 use mathlib.Core.Path.{_≡_, refl, sym, ap, _∙_, subst}
-use mathlib.Core.Bool.{Bool, true, false, cond, true≢false, false≢true}
+use mathlib.Core.Bool.{Bool, true, false, cond}
 use mathlib.Core.List.{List}
 use mathlib.Core.Option.{none}
 use Prim.Native.Nat.{ℕ, min, _+_, _*_, _-_, _≤_, _<_}
@@ -33,16 +33,9 @@ use Rattle.hosts.specs.Says.{firsts}
 use Rattle.hosts.specs.Keeps.{Sized, Core, Keeps}
 use Rattle.starting.specs.declared.Started.the-variants.{Now, NoHost, Unfit}
 use Rattle.starting.specs.Answers.{addresses, Serves, AfterStart}
-use Rattle.starting.specs.Inner.{Tells, NoLonger, Listed, Place, Own, Lengths, Enlists, begun}
+use Rattle.serving.specs.Answers.{Tells, Lengths, begun}
+use Rattle.starting.specs.Inner.{NoLonger, Listed, Place, Own, Enlists}
 use Rattle.starting.proofs.Lists.{none-alike, none-long, none-own, one-starts}
-
--- ---- a test that has passed, and one that has not
-
-pub passed : {A : Type 0} → A → Tells A true
-passed a = record { yes = λ e. a; no = λ e. absurd (true≢false e) }
-
-pub failed : {A : Type 0} → (A → ⊥) → Tells A false
-failed f = record { yes = λ e. absurd (false≢true e); no = λ e. f }
 
 -- ---- the list
 

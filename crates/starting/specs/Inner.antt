@@ -1,24 +1,14 @@
 -- What the steps of starting a host answer.
 -- Assumes nothing.
 use mathlib.Core.Path.{_≡_}
-use mathlib.Core.Bool.{Bool, true, false}
 use mathlib.Core.List.{List}
 use mathlib.Core.Option.{none, some}
-use Prim.Native.Nat.{ℕ, _*_, _/_, _≤_, _<_}
+use Prim.Native.Nat.{ℕ, _*_, _≤_, _<_}
 use lib.ListN.{length, getD}
-use Rattle.limits.specs.Limits.{datagramMin}
 use Rattle.message.specs.Message.{Address}
 use Rattle.strings.specs.Strings.{string, WellFormed}
-use Rattle.records.specs.Memory.{Shape}
 use Rattle.protocol.specs.State.{start, fresh}
-use Rattle.hosts.specs.declared.State.{State}
-use Rattle.hosts.specs.Keeps.{Sized}
 use Rattle.starting.specs.Answers.{addresses}
-
--- r says whether A holds
-pub record Tells (A : Type 0) (r : Bool) : Type 0 where
-  pub yes : r ≡ true → A
-  pub no : r ≡ false → A → ⊥
 
 -- ---- the list of addresses
 
@@ -49,27 +39,6 @@ pub record Own (ats lens bytes : List ℕ) (n : ℕ) (me : Address) (r : ℕ) : 
   pub starts : r < n → Starts ats lens bytes n me r
   pub none-starts : r ≡ n → WellFormed ats lens n (length bytes) → start (addresses ats lens bytes n) me ≡ none
 
--- ---- what is lent, by lengths alone
-
--- every message that a host sends fits a datagram, and a datagram the room
-pub record Datagrams (width size room : ℕ) : Type 0 where
-  pub sized : Sized width size
-  pub least : datagramMin ≤ size
-  pub room-fits : size ≤ room
-  pub wide : 0 < width
-
--- what `Serves` says, but for the addresses' lengths
-pub record Lengths (lows owners keys slots lens values nameLens names counts places mail room width size n : ℕ) : Type 0 where
-  pub datagrams : Datagrams width size room
-  pub low : 0 < lows
-  pub owner : 0 < owners
-  pub fits-lens : n ≤ nameLens
-  pub fits-names : n * width ≤ names
-  pub fits-counts : n * 3 ≤ counts
-  pub place : 0 < places / 3
-  pub fits-mail : places / 3 * size ≤ mail
-  pub table : Shape keys slots lens values 0
-
 -- ---- writing
 
 -- a list whose addresses fit so many lengths and bytes
@@ -79,19 +48,3 @@ pub record Enlists (lens names width : ℕ) (ats addressLens bytes : List ℕ) (
   pub fits-lens : n ≤ lens
   pub fits-names : n * width ≤ names
   pub short : NoLonger addressLens n width
-
--- the numbers of a host that has only started: nothing is stored, the room is free, and the count of transfers is 1
-abbrev pub begun : (own n width size bounds : ℕ) → State
-begun own n width size bounds = record {
-  me = own;
-  hosts = n;
-  peers = n;
-  width = width;
-  size = size;
-  bounds = bounds;
-  entries = 0;
-  len = 0;
-  from = 0;
-  transfers = 1;
-  turns = 0;
-}

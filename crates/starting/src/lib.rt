@@ -2,20 +2,16 @@
 // enough, the own one among them; the first is the owner of everything. All is tested before anything is
 // written, so a refusal leaves memory as it was.
 use delegation::Changed;
-use delivery::WORDS;
 use hosts::State;
 use limits::BYTES_MAX;
-use limits::DATAGRAM_MIN;
-use limits::DELEGATE_MAX;
-use limits::REDIRECT_MAX;
-ghost use mathlib.Core.Path.{_≡_};
 ghost use Prim.Native.Nat.{ℕ, _≤_, _<_};
 ghost use lib.ListN.{length};
 ghost use Rattle.strings.specs.Strings.{string, WellFormed};
 ghost use Rattle.delegation.specs.Map.{Keeps as KeepsMap};
 ghost use Rattle.peers.specs.Names.{Keeps as KeepsNames};
 ghost use Rattle.hosts.specs.Memory.{memory};
-ghost use Rattle.starting.specs.Inner.{Tells, NoLonger, Place, Own, Datagrams, Lengths, Enlists, begun};
+ghost use Rattle.serving.specs.Answers.{Tells};
+ghost use Rattle.starting.specs.Inner.{NoLonger, Place, Own, Enlists};
 ghost use Rattle.starting.specs.Answers.{AfterStart};
 
 // The new host's numbers; or that no host starts with such a list; or that what is lent does not serve.
@@ -55,7 +51,7 @@ pub fn start(
     if own == n {
         return Started::NoHost;
     }
-    if !serves(
+    if !serving::serves(
         lows.len(),
         owners.len(),
         keys.len(),
@@ -81,7 +77,7 @@ pub fn start(
     records::start(keys, slots, lens, values);
     delivery::start(counts, places, mail, size);
     enlist(name_lens, names, width, ats, address_lens, bytes, n);
-    Started::Now(begun(own, n, width, size, bounds))
+    Started::Now(serving::begun(own, n, width, size, bounds))
 }
 
 // The place of the own address on a list with which a host starts, or n if none starts.
@@ -133,75 +129,6 @@ fn place(ats: &[u64], lens: &[u64], bytes: &[u8], n: usize, name: &[u8]) -> usiz
     n
 }
 
-// Can slices of these lengths serve n hosts? How long the addresses are is not looked at.
-fn serves(
-    lows: usize,
-    owners: usize,
-    keys: usize,
-    slots: usize,
-    lens: usize,
-    values: usize,
-    name_lens: usize,
-    names: usize,
-    counts: usize,
-    places: usize,
-    mail: usize,
-    room: usize,
-    width: usize,
-    size: usize,
-    n: usize,
-) -> bool
-    ensures { λ r. ⌜ Tells (Lengths lows owners keys slots lens values «name_lens» names counts places mail room width size n) r ⌝ }
-{
-    if !datagrams_fit(width, size, room) {
-        return false;
-    }
-    if lows == 0 {
-        return false;
-    }
-    if owners == 0 {
-        return false;
-    }
-    if name_lens < n {
-        return false;
-    }
-    if names / width < n {
-        return false;
-    }
-    if counts / WORDS < n {
-        return false;
-    }
-    if places < WORDS {
-        return false;
-    }
-    if mail / size < places / WORDS {
-        return false;
-    }
-    records::fits(keys, slots, lens, values, 0)
-}
-
-// Does every message that a host sends fit a datagram of that size, and a datagram the room?
-fn datagrams_fit(width: usize, size: usize, room: usize) -> bool
-    ensures { λ r. ⌜ Tells (Datagrams width size room) r ⌝ }
-{
-    if width == 0 {
-        return false;
-    }
-    if BYTES_MAX <= width {
-        return false;
-    }
-    if size < DELEGATE_MAX + width {
-        return false;
-    }
-    if size < REDIRECT_MAX + width + width {
-        return false;
-    }
-    if size < DATAGRAM_MIN {
-        return false;
-    }
-    size <= room
-}
-
 // The first host owns every key. Answers how many bounds that takes.
 fn first_owns(lows: &mut [u64], owners: &mut [u64]) -> usize
     requires { ⌜ (0 < length (now lows)) × (0 < length (now owners)) ⌝ }
@@ -233,24 +160,5 @@ fn enlist(
         let end = at + len;
         peers::add(lens, names, width, i, &bytes[at..end]);
         i += 1;
-    }
-}
-
-// The numbers of a host that has only started.
-fn begun(own: usize, n: usize, width: usize, size: usize, bounds: usize) -> State
-    ensures { λ r. ⌜ r ≡ begun own n width size bounds ⌝ }
-{
-    State {
-        me: own,
-        hosts: n,
-        peers: n,
-        width,
-        size,
-        bounds,
-        entries: 0,
-        len: 0,
-        from: 0,
-        transfers: 1,
-        turns: 0,
     }
 }

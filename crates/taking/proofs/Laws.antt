@@ -2,34 +2,30 @@
 -- Assumes nothing.
 use mathlib.Core.Path.{_≡_, refl, sym, ap, _∙_, subst}
 use mathlib.Core.Logic.{⊎-elim}
-use mathlib.Core.Bool.{Bool, true, false, false≢true}
+use mathlib.Core.Bool.{Bool}
 use mathlib.Core.List.{List}
-use Prim.Native.Nat.{ℕ, min, _+_, _-_, _/_, _≤_, _<_}
+use Prim.Native.Nat.{ℕ, min, _+_, _/_, _≤_, _<_}
 use native.Mathlib.Omega.{arith}
 use lib.ListN.{length}
 use borrow.Author.Tests.{eq-eqb}
-use Rattle.memory.specs.Bytes.{part, Copied, Same}
+use Rattle.memory.specs.Bytes.{Copied}
 use Rattle.memory.proofs.Parts.{placed-in}
 use Rattle.memory.proofs.Copies.{copied-length}
 use Rattle.message.specs.Message.{Address, Body}
-use Rattle.peers.specs.declared.Peer.the-variants.{Is, Unknown}
-use Rattle.peers.specs.declared.Where.{Where}
-use Rattle.peers.specs.declared.Where.the-variants.{At as Between, Missing}
-use Rattle.peers.specs.Names.{Keeps as KeepsNames, places, joined as named, AfterFind, AfterName}
-use Rattle.delivery.specs.declared.Counts.{Counts}
+use Rattle.peers.specs.Names.{Keeps as KeepsNames, places, joined as named}
 use Rattle.delivery.specs.Post.{joined}
 use Rattle.delivery.specs.Memory.{Keeps as KeepsPost}
-use Rattle.delivery.specs.Answers.{Counted, AfterTake as AfterCount}
+use Rattle.delivery.specs.Answers.{AfterTake as AfterCount}
 use Rattle.protocol.specs.State.{Host}
 use Rattle.hosts.specs.declared.State.{State}
 use Rattle.hosts.specs.Memory.{Memory, memory}
 use Rattle.hosts.specs.Says.{Strange}
 use Rattle.hosts.specs.Keeps.{Core}
 use Rattle.hosts.proofs.Names.{length-firsts}
-use Rattle.hosts.proofs.Arrivals.{hearing, addressed, holding, no-peer, received-as, core-took, core-joined}
+use Rattle.hosts.proofs.Arrivals.{hearing, addressed, holding, no-peer, core-took, core-joined}
 use Rattle.taking.specs.declared.Taken.the-variants.{Now, NoRoom}
 use Rattle.taking.specs.declared.Seat.the-variants.{At, Full}
-use Rattle.taking.specs.Answers.{Last, Own, InRoom, Kept, AfterTake}
+use Rattle.taking.specs.Answers.{InRoom, Kept, AfterTake}
 use Rattle.taking.specs.Inner.{Old, New, AfterSeat}
 
 -- ---- a message is taken from an address that has its number, old or new
@@ -95,49 +91,7 @@ in-room k a s room room′ fits Y lens names n i N L p e =
 kept : (k : State) (n len i : ℕ) → Kept k (holding k n len i)
 kept k n len i = record { me = refl; hosts = refl; width = refl; size = refl; bounds = refl; entries = refl; transfers = refl; turns = refl }
 
--- the host is one of its peers
-own-in : (m : Memory) (k : State) (h : Host) → Core m k h → k .me < k .peers
-own-in m k h C = omega (arith, C .says .own, C .says .few)
-
--- what was said of an answer holds of one that is equal to it
-pub name-as : {lens names : List ℕ} {w i : ℕ} {r s : Where} → r ≡ s → AfterName lens names w i r → AfterName lens names w i s
-name-as {lens} {names} {w} {i} e A = subst (λ (r : Where). AfterName lens names w i r) e A
-
 module _ {lens names : List ℕ} {k : State} {a : Address} where
-  -- ---- the number of the last message from an address
-
-  pub last-known : {counts : List ℕ} {i : ℕ} {r : Counts} → AfterFind lens names (k .width) (k .peers) a (Is i) → Counted counts i r
-      → Last lens names counts k a (r .received)
-  last-known {counts} {i} F G = record {
-    is = λ lows owners keys slots ls values places mail h C.
-        let p = F .is (C .N) (C .names-kept) in
-        received-as (memory lows owners keys slots ls values lens names counts places mail) k h C i (p .0) a (p .1) G;
-  }
-
-  pub last-unknown : {counts : List ℕ} → AfterFind lens names (k .width) (k .peers) a Unknown → Last lens names counts k a 0
-  last-unknown F = record {
-    is = λ lows owners keys slots ls values places mail h C. sym (C .says .strange-received a (F .is (C .N) (C .names-kept)));
-  }
-
-  -- ---- the own address
-
-  pub nameless : AfterName lens names (k .width) (k .me) Missing → Own lens names k a false
-  nameless A = record {
-    yes = λ e. absurd (false≢true e);
-    other = λ e lows owners keys slots ls values counts places mail h C q. A .is (k .peers) (C .N) (C .names-kept) (own-in _ k h C);
-  }
-
-  pub compared : {from to : ℕ} {r : Bool} → AfterName lens names (k .width) (k .me) (Between from to) → Same (part names from (to - from)) a r
-      → Own lens names k a r
-  compared A S = record {
-    yes = λ e lows owners keys slots ls values counts places mail h C.
-        sym (S .yes e) ∙ A .is .2 (k .peers) (C .N) (C .names-kept) (own-in _ k h C) ∙ C .says .me-is;
-    other = λ e lows owners keys slots ls values counts places mail h C q.
-        S .no e (A .is .2 (k .peers) (C .N) (C .names-kept) (own-in _ k h C) ∙ C .says .me-is ∙ sym q);
-  }
-
-  -- ---- a message is taken
-
   module _ {counts room : List ℕ} {x : ℕ} {s : List ℕ} where
     pub no-bytes : length room < length s → AfterTake lens names counts room k a x s NoRoom lens names counts room
     no-bytes h = record {

@@ -1,7 +1,7 @@
 -- What taking a message into the room does.
 -- Assumes nothing.
 use mathlib.Core.Path.{_≡_}
-use mathlib.Core.Bool.{Bool, true, false}
+use mathlib.Core.Bool.{false}
 use mathlib.Core.List.{List}
 use Prim.Native.Nat.{ℕ, min, _/_, _≤_, _<_}
 use lib.ListN.{length, take}
@@ -14,18 +14,6 @@ use Rattle.hosts.specs.Memory.{memory, nameAt}
 use Rattle.hosts.specs.Keeps.{Core}
 use Rattle.taking.specs.declared.Taken.{Taken}
 use Rattle.taking.specs.declared.Taken.the-variants.{Now, NoRoom}
-
--- r is the number of the last message that was taken from the address a
-pub record Last (nameLens names counts : List ℕ) (k : State) (a : Address) (r : ℕ) : Type 0 where
-  pub is : (lows owners keys slots lens values places mail : List ℕ) (h : Host)
-      → Core (memory lows owners keys slots lens values nameLens names counts places mail) k h → r ≡ h .received a
-
--- r says whether the address a is the host's own
-pub record Own (nameLens names : List ℕ) (k : State) (a : Address) (r : Bool) : Type 0 where
-  pub yes : r ≡ true → (lows owners keys slots lens values counts places mail : List ℕ) (h : Host)
-      → Core (memory lows owners keys slots lens values nameLens names counts places mail) k h → a ≡ h .me
-  pub other : r ≡ false → (lows owners keys slots lens values counts places mail : List ℕ) (h : Host)
-      → Core (memory lows owners keys slots lens values nameLens names counts places mail) k h → a ≡ h .me → ⊥
 
 -- what stands in the room after the datagram s came from the address a: its length, its bytes, and the sender's number
 pub record InRoom (nameLens names : List ℕ) (k : State) (room s : List ℕ) (a : Address) : Type 0 where

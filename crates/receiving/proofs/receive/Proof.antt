@@ -32,8 +32,7 @@ enum-known-parsed : tie.Need-enum-known-parsed
 enum-known-parsed c = search needs
 
 message-requires : tie.Need-message-requires
-message-requires c κs =
-    parse-as (c .before .before .before .before .before .before .before .parsed .given .1) (c .before .before .before .before .before .before .before .before .before .parse .ensures) .is .2
+message-requires c κs = search needs
 
 enum-known-parsed-2 : tie.Need-enum-known-parsed-2
 enum-known-parsed-2 c = search needs

@@ -7,7 +7,7 @@ use Rattle.starting.proofs.none_longer.Statement.{statement}
 use Rattle.starting.proofs.none_longer.Tie as tie
 use borrow.Author.Count.{below-none, below-more}
 use Rattle.starting.specs.Inner.{NoLonger}
-use Rattle.starting.proofs.Laws.{passed, failed}
+use Rattle.serving.proofs.Laws.{passed, failed}
 
 abbrev Inv-loop : tie.InvT-loop
 Inv-loop lens n most i₀ i = (i ≤ n) × NoLonger lens i most
