@@ -1,10 +1,9 @@
 -- The test for a whole range is right: it holds exactly if every key of the range is that host's.
 -- Assumes nothing.
-use mathlib.Core.Path.{_≡_, refl, sym, ap, ap₂, _∙_, subst}
-use mathlib.Core.Logic.{⊎-elim}
-use mathlib.Core.Bool.{Bool, true, false, cond, not, _&&_, _||_, and-eq-true-iff, false≢true, true≢false}
+use mathlib.Core.Path.{_≡_, refl, ap₂, _∙_, subst}
+use mathlib.Core.Bool.{Bool, true, false, cond, not, _&&_, _||_, and-eq-true-iff, false≢true}
 use mathlib.Core.List.{List, [], _∷_}
-use Prim.Native.Nat.{ℕ, zero, suc, _≤_, _<_}
+use Prim.Native.Nat.{ℕ, zero, suc}
 use native.Mathlib.Omega.{arith}
 use lib.Dec.{eqb, ltb}
 use borrow.Author.Tests.{eqb-true, eqb-false, ltb-true, ltb-false, lt-ltb, le-ltb}
@@ -16,6 +15,7 @@ use Rattle.message.specs.Message.{Address}
 use Rattle.decoding.specs.Decode.{same}
 use Rattle.decoding.proofs.Decided.{same-true, same-refl}
 use Rattle.protocol.specs.Owners.{Grant, Owners, newest, ownerOf, keyIn, edges, whole}
+use Rattle.protocol.proofs.Addresses.{neither}
 
 -- ---- where the owner can change
 
@@ -27,10 +27,6 @@ isAt End k = false
 abbrev onEdge : List Grant → ℕ → Bool
 onEdge [] k = false
 onEdge (g ∷ l) k = isAt (g .lo) k || (isAt (g .hi) k || onEdge l k)
-
-neither : (a b : Bool) → a || b ≡ false → (a ≡ false) × (b ≡ false)
-neither false b e = (refl, e)
-neither true b e = absurd (true≢false e)
 
 -- a key and the next lie on the same side of a bound that is not at the next
 below-step : (b : Bound) (k : ℕ) → isAt b (suc k) ≡ false → below (Key (suc k)) b ≡ below (Key k) b

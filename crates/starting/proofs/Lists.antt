@@ -1,7 +1,7 @@
 -- With which lists a host starts: the definition's tests, against the addresses by their places.
 -- Assumes nothing.
 use mathlib.Core.Path.{_≡_, refl, sym, ap, ap₂, _∙_, subst}
-use mathlib.Core.Bool.{Bool, true, false, cond, _&&_, not, and-false, false≢true}
+use mathlib.Core.Bool.{Bool, true, false, cond, _&&_, not, and-false, and-eq-true-iff}
 use mathlib.Core.List.{List, [], _∷_, _++_}
 use mathlib.Core.Option.{none, some}
 use Prim.Native.Nat.{ℕ, zero, suc, _<_}
@@ -15,11 +15,6 @@ use Rattle.protocol.specs.Address.{among}
 use Rattle.protocol.specs.State.{different, short, fresh, start}
 use Rattle.hosts.specs.Says.{firsts, Strange}
 use Rattle.hosts.proofs.Names.{among-firsts, strange-among}
-
--- both tests pass, if the two together do
-both : (s t : Bool) → s && t ≡ true → (s ≡ true) × (t ≡ true)
-both true t e = (refl, e)
-both false t e = absurd (false≢true e)
 
 -- the list from its front
 firsts-cons : (N : ℕ → Address) (n : ℕ) → firsts N (suc n) ≡ N 0 ∷ firsts (λ i. N (suc i)) n
@@ -63,9 +58,9 @@ brief N (suc n) h =
 all-brief : (N : ℕ → Address) (n : ℕ) → short (firsts N n) ≡ true → (i : ℕ) → i < n → length (N i) < bytesMax
 all-brief N zero e i p = absurd (omega arith)
 all-brief N (suc n) e zero p =
-    ltb-true (length (N 0)) bytesMax (both (ltb (length (N 0)) bytesMax) (short (firsts (λ k. N (suc k)) n)) (sym (ap short (firsts-cons N n)) ∙ e) .0)
+    ltb-true (length (N 0)) bytesMax (and-eq-true-iff (ltb (length (N 0)) bytesMax) (short (firsts (λ k. N (suc k)) n)) .0 (sym (ap short (firsts-cons N n)) ∙ e) .0)
 all-brief N (suc n) e (suc i) p =
-    all-brief (λ k. N (suc k)) n (both (ltb (length (N 0)) bytesMax) (short (firsts (λ k. N (suc k)) n)) (sym (ap short (firsts-cons N n)) ∙ e) .1) i (omega arith)
+    all-brief (λ k. N (suc k)) n (and-eq-true-iff (ltb (length (N 0)) bytesMax) (short (firsts (λ k. N (suc k)) n)) .0 (sym (ap short (firsts-cons N n)) ∙ e) .1) i (omega arith)
 
 -- ---- starting
 

@@ -7,11 +7,12 @@ use mathlib.Core.Option.{Option, none, some}
 use Prim.Native.Nat.{ℕ, _<_}
 use native.Mathlib.Omega.{arith}
 use Rattle.message.specs.Message.{Address}
+use Rattle.world.specs.Single.{Among}
 use Rattle.upstream.specs.Messages.{Hashtable, getRequest, message, ack, Packet}
-use Rattle.upstream.specs.Delivery.{insert, ackOf, truncate, SingleDelivery, ReceiveAck, On}
+use Rattle.upstream.specs.Delivery.{insert, ackOf, truncate, SingleDelivery, ReceiveAck}
 use Rattle.upstream.specs.Hosts.{AppRequest, State, Map, Complete, freed, receives, sent, ProcessRoom, Next, NextGet, receivePacket, processPacket, stutter}
 
--- Receiving may change anything. On an Ack that says nothing new the host may take another map, another table, another count and another list of
+-- Receiving may change anything. Among an Ack that says nothing new the host may take another map, another table, another count and another list of
 -- requests: the line "nothing else changes" compares the new state with itself. (Here `protocol.receive` is a function, and where the host stays as it
 -- was all memory does: `receiving.AfterReceive`. `crates/protocol/must-fail/ack_empties_the_records.edit` is refused)
 pub anything-changes : (pre : State) → pre .received ≡ none → Complete pre → (map : Map) (table : Hashtable) (count : ℕ) (requests : List AppRequest) (a : Address)
@@ -76,8 +77,8 @@ pub stutters : (pre : State) → Complete pre → Next pre pre []
 stutters pre complete = record { complete = complete; constants = refl; step = stutter; is = (refl, refl); sound = λ p w e. w }
 
 -- Sends are a set, so a Reply may be sent twice in one step, or a thousand times. (Here a step's datagrams are a list: `protocol.Step`)
-pub sent-twice : (pre post : State) (src : Address) (n k : ℕ) (q : Packet) → NextGet pre post src n k (λ p. On p (q ∷ []))
-    → NextGet pre post src n k (λ p. On p (q ∷ q ∷ []))
+pub sent-twice : (pre post : State) (src : Address) (n k : ℕ) (q : Packet) → NextGet pre post src n k (λ p. Among p (q ∷ []))
+    → NextGet pre post src n k (λ p. Among p (q ∷ q ∷ []))
 sent-twice pre post src n k q G = (
   G .0,
   G .1,

@@ -1,7 +1,7 @@
 -- Processing here is a step that upstream's relations allow: the one for processing, or the one by which a nonsensical Delegate is dropped.
 -- Assumes nothing.
 use mathlib.Core.Path.{_≡_, refl, sym, ap, _∙_, subst}
-use mathlib.Core.Bool.{Bool, true, false, cond, _||_, _&&_, not, false≢true}
+use mathlib.Core.Bool.{Bool, true, false, cond, _||_, not, false≢true}
 use mathlib.Core.List.{List, [], _∷_, _++_}
 use mathlib.Core.Logic.{_⊎_, inl, inr, ⊎-elim}
 use mathlib.Core.Option.{Option, none, some, Option·some-injective}
@@ -9,8 +9,8 @@ use Prim.Native.Nat.{ℕ, suc, _-_, _<_}
 use native.Mathlib.Omega.{arith}
 use lib.ListN.{length}
 use lib.Dec.{ltb, leb}
-use borrow.Author.Tests.{eq-eqb, ne-eqb, ltb-true, ltb-false, leb-true, leb-false}
-use Rattle.limits.specs.Limits.{valueMax, entriesLimit, bytesMax, transfersLimit}
+use borrow.Author.Tests.{not-true, not-false, eq-eqb, ne-eqb, ltb-true, ltb-false, leb-true, leb-false}
+use Rattle.limits.specs.Limits.{valueMax, entriesLimit, transfersLimit}
 use Rattle.keys.specs.declared.Bound.{Bound}
 use Rattle.keys.specs.Bound.{below, holds}
 use Rattle.format.specs.Number.{numbers}
@@ -26,6 +26,7 @@ use Rattle.protocol.specs.Owners.{Owners, ownerOf, giving, whole}
 use Rattle.protocol.specs.State.{Host, Letter, done, short}
 use Rattle.protocol.specs.Delivery.{Step, Outcome, got, still, next, posted, packet, numbered, stuck, dropped, unnumbered, replied, redirected, handed}
 use Rattle.protocol.specs.Process.{free, discarded, answering, onGet, long, keeping, onSet, anyLong, unfit, onDelegate, refused, handing, onShard, onBody, onLetter, process}
+use Rattle.protocol.proofs.Addresses.{either, neither, short-among}
 use Rattle.protocol.proofs.Entries.{above-kept, look-inRange, look-outside, look-replacing, look-setting, orElse}
 use Rattle.protocol.proofs.Whole.{whole-all, all-whole}
 use Rattle.upstream.specs.Messages.{Len, maxValLen, ValidOptional, reply, redirect, delegate, message, Packet}
@@ -48,34 +49,6 @@ pub record Processed (past : List AppRequest) (h : Host) (s : Step) : Type 0 whe
   pub packets : List Packet
   pub carried : CarriesAll (h .me) (s .sends) packets
   pub next : Next (view past h) (view (recorded past (s .executed)) (s .state)) (sending packets)
-
--- ---- tests
-
-was-true : (t : Bool) → not t ≡ false → t ≡ true
-was-true true e = refl
-was-true false e = absurd (false≢true (sym e))
-
-was-false : (t : Bool) → not t ≡ true → t ≡ false
-was-false true e = absurd (false≢true e)
-was-false false e = refl
-
-neither-of : (s t : Bool) → s || t ≡ false → (s ≡ false) × (t ≡ false)
-neither-of true t e = absurd (false≢true (sym e))
-neither-of false t e = (refl, e)
-
-either-of : (s t : Bool) → s || t ≡ true → (s ≡ true) ⊎ (t ≡ true)
-either-of true t e = inl refl
-either-of false t e = inr e
-
-host-short : (l : List Address) → short l ≡ true → (a : Address) → among a l ≡ true → length a < bytesMax
-host-short [] s a e = absurd (false≢true e)
-host-short (b ∷ l) s a e = go (ltb (length b) bytesMax) refl s (same a b) refl e (host-short l)
-  where
-    go : (t : Bool) → ltb (length b) bytesMax ≡ t → t && short l ≡ true → (u : Bool) → same a b ≡ u → u || among a l ≡ true
-        → (short l ≡ true → (z : Address) → among z l ≡ true → length z < bytesMax) → length a < bytesMax
-    go true p q true r w f = let v : length a ≡ length b = ap length (same-true a b r) in omega (arith, v, ltb-true (length b) bytesMax p)
-    go true p q false r w f = f q a w
-    go false p q u r w f = absurd (false≢true q)
 
 preferred-as : (v w : Option Value) → orElse v w ≡ preferred v w
 preferred-as none w = refl
@@ -349,10 +322,10 @@ module _ (past : List AppRequest) (h : Host) (S : Sane h) where
       row-delegate : (lo hi : Bound) (es : List Entry) → Above 0 es → (no : Bool) → unfit h l lo hi es ≡ no
           → Row (delegateBody lo hi es) (onDelegate no h l lo hi es)
       row-delegate lo hi es sorted false e =
-          row-accepted lo hi es sorted (was-true _ (neither-of (anyLong es) _ (neither-of (leb entriesLimit (length es)) _ (neither-of (not (below lo hi)) _ e .1) .1) .1))
+          row-accepted lo hi es sorted (not-false _ (neither (anyLong es) _ (neither (leb entriesLimit (length es)) _ (neither (not (below lo hi)) _ e .1) .1) .1))
       row-delegate lo hi es sorted true e =
           ⊎-elim
-          (λ q. row-nonsense lo hi es (λ v n. n (was-false (below lo hi) q)))
+          (λ q. row-nonsense lo hi es (λ v n. n (not-true (below lo hi) q)))
           (λ q.
           ⊎-elim
           (λ r.
@@ -370,10 +343,10 @@ module _ (past : List AppRequest) (h : Host) (S : Sane h) where
           let w = v .1 (b .0) (b .1) (b .2) in
           let x = b .3 in
           omega (arith, w, x)))
-          (λ z. row-strange lo hi es (was-false (among (l .from) (h .hosts)) z))
-          (either-of (anyLong es) _ r))
-          (either-of (leb entriesLimit (length es)) _ q))
-          (either-of (not (below lo hi)) _ e)
+          (λ z. row-strange lo hi es (not-true (among (l .from) (h .hosts)) z))
+          (either (anyLong es) _ r))
+          (either (leb entriesLimit (length es)) _ q))
+          (either (not (below lo hi)) _ e)
 
       -- ---- Shard
 
@@ -392,42 +365,42 @@ module _ (past : List AppRequest) (h : Host) (S : Sane h) where
       must-reject lo hi a e =
           ⊎-elim (λ q. inl (same-true a (h .me) q))
           (λ q.
-          ⊎-elim (λ r. inr (inr (inr (inl (λ o. false≢true (sym (was-false (among a (h .hosts)) r) ∙ on-among a (h .hosts) o))))))
+          ⊎-elim (λ r. inr (inr (inr (inl (λ o. false≢true (sym (not-true (among a (h .hosts)) r) ∙ on-among a (h .hosts) o))))))
           (λ r.
-          ⊎-elim (λ s. inr (inr (inl (was-false (below lo hi) s))))
+          ⊎-elim (λ s. inr (inr (inl (not-true (below lo hi) s))))
           (λ s.
-          ⊎-elim (λ z. inr (inr (inr (inr (inl (λ A. false≢true (sym (was-false (whole lo hi (h .me) (h .owners)) z) ∙ of-all lo hi A)))))))
+          ⊎-elim (λ z. inr (inr (inr (inr (inl (λ A. false≢true (sym (not-true (whole lo hi (h .me) (h .owners)) z) ∙ of-all lo hi A)))))))
           (λ z. inr (inr (inr (inr (inr (length (inRange lo hi (h .records)), range-len lo hi, leb-true entriesLimit (length (inRange lo hi (h .records))) z))))))
-          (either-of (not (whole lo hi (h .me) (h .owners))) _ s))
-          (either-of (not (below lo hi)) _ r))
-          (either-of (not (among a (h .hosts))) _ q))
-          (either-of (same a (h .me)) _ e)
+          (either (not (whole lo hi (h .me) (h .owners))) _ s))
+          (either (not (below lo hi)) _ r))
+          (either (not (among a (h .hosts))) _ q))
+          (either (same a (h .me)) _ e)
 
       module _ (lo hi : Bound) (a : Address) (e : refused h lo hi a ≡ false) where
         first : (same a (h .me) ≡ false) × ((not (among a (h .hosts)) || (not (below lo hi) || (not (whole lo hi (h .me) (h .owners)) || leb entriesLimit (length (inRange lo hi (h .records)))))) ≡ false)
-        first = neither-of _ _ e
+        first = neither _ _ e
 
         second : (not (among a (h .hosts)) ≡ false) × ((not (below lo hi) || (not (whole lo hi (h .me) (h .owners)) || leb entriesLimit (length (inRange lo hi (h .records))))) ≡ false)
-        second = neither-of _ _ (first .1)
+        second = neither _ _ (first .1)
 
         third : (not (below lo hi) ≡ false) × ((not (whole lo hi (h .me) (h .owners)) || leb entriesLimit (length (inRange lo hi (h .records)))) ≡ false)
-        third = neither-of _ _ (second .1)
+        third = neither _ _ (second .1)
 
         fourth : (not (whole lo hi (h .me) (h .owners)) ≡ false) × (leb entriesLimit (length (inRange lo hi (h .records))) ≡ false)
-        fourth = neither-of _ _ (third .1)
+        fourth = neither _ _ (third .1)
 
         is-host : among a (h .hosts) ≡ true
-        is-host = was-true _ (second .0)
+        is-host = not-false _ (second .0)
 
         other : a ≡ h .me → ⊥
         other q = false≢true (sym (first .0) ∙ ap (λ (z : Address). same z (h .me)) q ∙ same-refl (h .me))
 
         not-rejected : MustReject (view past h) (record { lo = lo; hi = hi }) a → ⊥
         not-rejected (inl q) = other q
-        not-rejected (inr (inl q)) = q (host-short (h .hosts) (S .hosts-short) a is-host)
-        not-rejected (inr (inr (inl q))) = false≢true (sym q ∙ was-true _ (third .0))
+        not-rejected (inr (inl q)) = q (short-among (h .hosts) (S .hosts-short) a is-host)
+        not-rejected (inr (inr (inl q))) = false≢true (sym q ∙ not-false _ (third .0))
         not-rejected (inr (inr (inr (inl q)))) = q (among-on a (h .hosts) is-host)
-        not-rejected (inr (inr (inr (inr (inl q))))) = q (all-of lo hi (was-true _ (fourth .0)))
+        not-rejected (inr (inr (inr (inr (inl q))))) = q (all-of lo hi (not-false _ (fourth .0)))
         not-rejected (inr (inr (inr (inr (inr q))))) =
             let u : length (inRange lo hi (h .records)) ≡ q .0 =
             len-unique (extract (λ k. look k (h .records)) (record { lo = lo; hi = hi })) (q .0) (inRange lo hi (h .records))
@@ -453,7 +426,7 @@ module _ (past : List AppRequest) (h : Host) (S : Sane h) where
                   record {
                     other = other;
                     is-host = among-on a (h .hosts) is-host;
-                    all-mine = all-of lo hi (was-true _ (fourth .0));
+                    all-mine = all-of lo hi (not-false _ (fourth .0));
                     delivery = subst (λ u. SendSingle (viewDelivery h) (viewDelivery (posted a (delegateBody lo hi (inRange lo hi (h .records))) (done (giving lo hi a (h .owners)) (outside lo hi (h .records)) (suc (h .transfers)) h)))
                         (delegate (record { lo = lo; hi = hi }) u) a (some (message (next h a) a (viewBody (delegateBody lo hi (inRange lo hi (h .records))))))) table-is
                         (send-posted (giving lo hi a (h .owners)) (outside lo hi (h .records)) (suc (h .transfers)) a (delegateBody lo hi (inRange lo hi (h .records))) n);
@@ -482,7 +455,7 @@ module _ (past : List AppRequest) (h : Host) (S : Sane h) where
                   record {
                     other = other;
                     is-host = among-on a (h .hosts) is-host;
-                    all-mine = all-of lo hi (was-true _ (fourth .0));
+                    all-mine = all-of lo hi (not-false _ (fourth .0));
                     delivery = record {
                       too-many = λ z. (refl, refl);
                       sent = λ z. let u = seqno-is h a in absurd (omega (arith, u, z, ltb-false (next h a) numbers n));

@@ -1,7 +1,7 @@
 -- Receiving here is a step that upstream's relation for receiving allows, for every host, address and bytes.
 -- Assumes nothing.
 use mathlib.Core.Path.{_≡_, refl, sym, ap, _∙_}
-use mathlib.Core.Bool.{Bool, true, false, _&&_, false≢true}
+use mathlib.Core.Bool.{Bool, true, false, _&&_, and-eq-true-iff}
 use mathlib.Core.List.{List, [], _∷_}
 use mathlib.Core.Logic.{inl, inr}
 use mathlib.Core.Option.{Option, none, some}
@@ -153,14 +153,10 @@ module _ (past : List AppRequest) (h : Host) where
         implied-number n to b (same-true to (h .me) e) (eqb n (suc (h .received a))) (leb n (h .received a)) roomy refl refl
     implied-message n to b false roomy e = ignored (pkt (message n to (viewBody b))) elsewhere
 
-    both : (s t : Bool) → s && t ≡ true → t ≡ true
-    both true t e = e
-    both false t e = absurd (false≢true e)
-
     implied-ack : (n : ℕ) (more : Bool) → (among a (h .peers) && ltb (h .acknowledged a) n) ≡ more
         → Received past h (pkt (ack n)) (onAck more h a n)
     implied-ack n true e =
-        let less : h .acknowledged a < n = ltb-true (h .acknowledged a) n (both (among a (h .peers)) (ltb (h .acknowledged a) n) e) in
+        let less : h .acknowledged a < n = ltb-true (h .acknowledged a) n (and-eq-true-iff (among a (h .peers)) (ltb (h .acknowledged a) n) .0 e .1) in
         let known = ack-of h a in
         let u : stateOf (viewAck h a) .acked ≡ h .acknowledged a = ap (λ (s : AckState). s .acked) known in
         taken (pkt (ack n)) (onAck true h a n) [] (reply n) tt refl

@@ -20,11 +20,13 @@ use Rattle.protocol.specs.State.{Host, fresh, start, short, different}
 use Rattle.protocol.specs.Delivery.{Packet as Handed, Step, numberedFrom, still, waits}
 use Rattle.protocol.specs.Retransmit.{toAll, retransmit}
 use Rattle.protocol.specs.Turn.{round, kind, resending, byKind, turn}
+use Rattle.world.specs.Single.{Among}
 use Rattle.upstream.specs.Messages.{Message, SingleMessage, message, ack, invalid, Packet}
-use Rattle.upstream.specs.Delivery.{AckState, On, UnAcked}
+use Rattle.upstream.specs.Delivery.{AckState, UnAcked}
 use Rattle.upstream.specs.Hosts.{AppRequest, Io, receives, Next, retransmitAll, stutter, AllAddresses, Init}
 use Rattle.upstream.specs.View.{viewBody, arrives, CarriesAll, sending, messagesFrom, heardOf, viewDelivery, view, recorded}
-use Rattle.upstream.proofs.Lists.{on-left, on-right, on-either, sent-sending, all-sends, sound}
+use Rattle.world.proofs.Lists.{among-left, among-right, among-either}
+use Rattle.upstream.proofs.Lists.{sent-sending, all-sends, sound}
 use Rattle.upstream.proofs.Receives.{complete, receive-implied}
 use Rattle.upstream.proofs.Processes.{Sane, Processed, process-implied}
 
@@ -63,16 +65,16 @@ module _ (past : List AppRequest) (h : Host) where
       (carries-to (h .acknowledged a + 1) a (h .waiting a)) (carries-all l)
 
   -- a packet for a peer is one of its messages, and the other way round
-  to-message : (n : ℕ) (a : Address) (l : List Body) (p : Packet) → On p (packetsTo n a l)
-      → (k : ℕ) × (m : Message) × On (message k a m) (messagesFrom n a l) × (p .msg ≡ message k a m) × (p .dst ≡ a) × (p .src ≡ h .me)
+  to-message : (n : ℕ) (a : Address) (l : List Body) (p : Packet) → Among p (packetsTo n a l)
+      → (k : ℕ) × (m : Message) × Among (message k a m) (messagesFrom n a l) × (p .msg ≡ message k a m) × (p .dst ≡ a) × (p .src ≡ h .me)
   unfolding packetsTo
   to-message n a [] p o = absurd o
   to-message n a (b ∷ l) p (inl e) =
       (n, viewBody b, inl refl, ap (λ (q : Packet). q .msg) e, ap (λ (q : Packet). q .dst) e, ap (λ (q : Packet). q .src) e)
   to-message n a (b ∷ l) p (inr o) = let r = to-message (suc n) a l p o in (r .0, r .1, inr (r .2), r .3, r .4, r .5)
 
-  of-message : (n : ℕ) (a : Address) (l : List Body) (k : ℕ) (d : Address) (m : Message) → On (message k d m) (messagesFrom n a l)
-      → (d ≡ a) × On (record { dst = d; src = h .me; msg = message k d m }) (packetsTo n a l)
+  of-message : (n : ℕ) (a : Address) (l : List Body) (k : ℕ) (d : Address) (m : Message) → Among (message k d m) (messagesFrom n a l)
+      → (d ≡ a) × Among (record { dst = d; src = h .me; msg = message k d m }) (packetsTo n a l)
   unfolding packetsTo
   of-message n a [] k d m o = absurd o
   of-message n a (b ∷ l) k d m (inl e) = (ap dstOf e, inl (ap (λ (s : SingleMessage). record { dst = dstOf s; src = h .me; msg = s }) e))
@@ -86,7 +88,7 @@ module _ (past : List AppRequest) (h : Host) where
   one-is-suc : (n : ℕ) → n + 1 ≡ suc n
   one-is-suc n = omega arith
 
-  all-unacked : (l : List Address) (p : Packet) → On p (packetsAll l) → UnAcked (viewDelivery h) (h .me) p
+  all-unacked : (l : List Address) (p : Packet) → Among p (packetsAll l) → UnAcked (viewDelivery h) (h .me) p
   unfolding packetsAll packetsTo
   all-unacked [] p o = absurd o
   all-unacked (a ∷ l) p o =
@@ -101,15 +103,15 @@ module _ (past : List AppRequest) (h : Host) where
           a,
           r .1,
           known (h .waiting a) refl w,
-          subst (λ (n : ℕ). On (message (r .0) a (r .1)) (messagesFrom n a (h .waiting a))) (one-is-suc (h .acknowledged a)) (r .2),
+          subst (λ (n : ℕ). Among (message (r .0) a (r .1)) (messagesFrom n a (h .waiting a))) (one-is-suc (h .acknowledged a)) (r .2),
           r .3,
           r .4,
         ),
       ))
       (λ w. all-unacked l p w)
-      (on-either p (packetsTo (h .acknowledged a + 1) a (h .waiting a)) (packetsAll l) o)
+      (among-either p (packetsTo (h .acknowledged a + 1) a (h .waiting a)) (packetsAll l) o)
     where
-      known : (w : List Body) → h .waiting a ≡ w → On p (packetsTo (h .acknowledged a + 1) a w)
+      known : (w : List Body) → h .waiting a ≡ w → Among p (packetsTo (h .acknowledged a + 1) a w)
           → cond {A = Option AckState} (heardOf (h .acknowledged a) (h .waiting a)) (some (record { acked = h .acknowledged a; unacked = messagesFrom (suc (h .acknowledged a)) a (h .waiting a) })) none
           ≡ some (record { acked = h .acknowledged a; unacked = messagesFrom (suc (h .acknowledged a)) a (h .waiting a) })
       known [] e o = absurd o
@@ -117,32 +119,32 @@ module _ (past : List AppRequest) (h : Host) where
           ap (λ (z : List Body). cond {A = Option AckState} (heardOf (h .acknowledged a) z) (some (record { acked = h .acknowledged a; unacked = messagesFrom (suc (h .acknowledged a)) a (h .waiting a) })) none) e
 
   -- what waits for a peer of the list is among them
-  in-all : (l : List Address) (a : Address) (p : Packet) → among a l ≡ true → On p (packetsTo (h .acknowledged a + 1) a (h .waiting a)) → On p (packetsAll l)
+  in-all : (l : List Address) (a : Address) (p : Packet) → among a l ≡ true → Among p (packetsTo (h .acknowledged a + 1) a (h .waiting a)) → Among p (packetsAll l)
   unfolding packetsAll
   in-all [] a p e o = absurd (false≢true e)
   in-all (b ∷ l) a p e o = go (same a b) refl e (in-all l a p)
     where
-      go : (t : Bool) → same a b ≡ t → t || among a l ≡ true → (among a l ≡ true → On p (packetsTo (h .acknowledged a + 1) a (h .waiting a)) → On p (packetsAll l))
-          → On p (packetsTo (h .acknowledged b + 1) b (h .waiting b) ++ packetsAll l)
+      go : (t : Bool) → same a b ≡ t → t || among a l ≡ true → (among a l ≡ true → Among p (packetsTo (h .acknowledged a + 1) a (h .waiting a)) → Among p (packetsAll l))
+          → Among p (packetsTo (h .acknowledged b + 1) b (h .waiting b) ++ packetsAll l)
       go true q w f =
-          on-left p (packetsTo (h .acknowledged b + 1) b (h .waiting b)) (packetsAll l)
-          (subst (λ (z : Address). On p (packetsTo (h .acknowledged z + 1) z (h .waiting z))) (same-true a b q) o)
-      go false q w f = on-right p (packetsTo (h .acknowledged b + 1) b (h .waiting b)) (packetsAll l) (f w o)
+          among-left p (packetsTo (h .acknowledged b + 1) b (h .waiting b)) (packetsAll l)
+          (subst (λ (z : Address). Among p (packetsTo (h .acknowledged z + 1) z (h .waiting z))) (same-true a b q) o)
+      go false q w f = among-right p (packetsTo (h .acknowledged b + 1) b (h .waiting b)) (packetsAll l) (f w o)
 
-  unacked-all : Peers h → (p : Packet) → UnAcked (viewDelivery h) (h .me) p → On p (packetsAll (h .peers))
+  unacked-all : Peers h → (p : Packet) → UnAcked (viewDelivery h) (h .me) p → Among p (packetsAll (h .peers))
   unfolding packetsAll packetsTo
   unacked-all P p u =
       let a = u .1 .0 in
-      let M : On (message (u .1 .2) (u .1 .3) (u .1 .4)) (messagesFrom (suc (h .acknowledged a)) a (h .waiting a)) =
+      let M : Among (message (u .1 .2) (u .1 .3) (u .1 .4)) (messagesFrom (suc (h .acknowledged a)) a (h .waiting a)) =
       there (heardOf (h .acknowledged a) (h .waiting a)) (u .1 .5) (u .1 .6) in
       let r = of-message (h .acknowledged a + 1) a (h .waiting a) (u .1 .2) (u .1 .3) (u .1 .4)
-      (subst (λ (n : ℕ). On (message (u .1 .2) (u .1 .3) (u .1 .4)) (messagesFrom n a (h .waiting a))) (sym (one-is-suc (h .acknowledged a))) M) in
-      in-all (h .peers) a p (P a (λ e. subst (λ (l : List Body). On (message (u .1 .2) (u .1 .3) (u .1 .4)) (messagesFrom (suc (h .acknowledged a)) a l)) e M))
-      (subst (λ (q : Packet). On q (packetsTo (h .acknowledged a + 1) a (h .waiting a))) (λ i. record { dst = sym (u .1 .8) i; src = sym (u .0) i; msg = sym (u .1 .7) i }) (r .1))
+      (subst (λ (n : ℕ). Among (message (u .1 .2) (u .1 .3) (u .1 .4)) (messagesFrom n a (h .waiting a))) (sym (one-is-suc (h .acknowledged a))) M) in
+      in-all (h .peers) a p (P a (λ e. subst (λ (l : List Body). Among (message (u .1 .2) (u .1 .3) (u .1 .4)) (messagesFrom (suc (h .acknowledged a)) a l)) e M))
+      (subst (λ (q : Packet). Among q (packetsTo (h .acknowledged a + 1) a (h .waiting a))) (λ i. record { dst = sym (u .1 .8) i; src = sym (u .0) i; msg = sym (u .1 .7) i }) (r .1))
     where
       there : (t : Bool) → cond {A = Option AckState} t (some (record { acked = h .acknowledged (u .1 .0); unacked = messagesFrom (suc (h .acknowledged (u .1 .0))) (u .1 .0) (h .waiting (u .1 .0)) })) none ≡ some (u .1 .1)
-          → On (message (u .1 .2) (u .1 .3) (u .1 .4)) (u .1 .1 .unacked) → On (message (u .1 .2) (u .1 .3) (u .1 .4)) (messagesFrom (suc (h .acknowledged (u .1 .0))) (u .1 .0) (h .waiting (u .1 .0)))
-      there true e o = subst (λ (s : AckState). On (message (u .1 .2) (u .1 .3) (u .1 .4)) (s .unacked)) (sym (Option·some-injective _ (u .1 .1) e)) o
+          → Among (message (u .1 .2) (u .1 .3) (u .1 .4)) (u .1 .1 .unacked) → Among (message (u .1 .2) (u .1 .3) (u .1 .4)) (messagesFrom (suc (h .acknowledged (u .1 .0))) (u .1 .0) (h .waiting (u .1 .0)))
+      there true e o = subst (λ (s : AckState). Among (message (u .1 .2) (u .1 .3) (u .1 .4)) (s .unacked)) (sym (Option·some-injective _ (u .1 .1) e)) o
       there false e o = absurd (Option·none-ne-some (u .1 .1) e)
 
   -- upstream's spontaneously_retransmit_next holds of sending again
@@ -159,8 +161,8 @@ module _ (past : List AppRequest) (h : Host) where
         inl (
           all-sends (packetsAll (h .peers)),
           (λ p. (
-            (λ o. all-unacked (h .peers) p (subst (λ (l : List Packet). On p l) (sent-sending (packetsAll (h .peers))) o)),
-            (λ u. subst (λ (l : List Packet). On p l) (sym (sent-sending (packetsAll (h .peers)))) (unacked-all P p u)),
+            (λ o. all-unacked (h .peers) p (subst (λ (l : List Packet). Among p l) (sent-sending (packetsAll (h .peers))) o)),
+            (λ u. subst (λ (l : List Packet). Among p l) (sym (sent-sending (packetsAll (h .peers)))) (unacked-all P p u)),
           )),
           refl,
         ),

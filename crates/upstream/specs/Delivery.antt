@@ -3,13 +3,13 @@
 use mathlib.Core.Path.{_≡_}
 use mathlib.Core.Bool.{cond}
 use mathlib.Core.List.{List, [], _∷_, _++_}
-use mathlib.Core.Logic.{_⊎_}
 use mathlib.Core.Option.{Option, none, some}
 use Prim.Native.Nat.{ℕ, _+_, _≤_, _<_}
 use lib.ListN.{length}
 use lib.Dec.{leb}
 use Rattle.message.specs.Message.{Address}
 use Rattle.protocol.specs.Address.{at}
+use Rattle.world.specs.Single.{Among}
 use Rattle.upstream.specs.Messages.{Message, SingleMessage, message, ack, invalid, Packet, Packets, Empty, Only, maxSeqno}
 
 -- a partial map with v at a
@@ -111,14 +111,9 @@ pub record SendSingle (pre post : SingleDelivery) (m : Message) (dst : Address) 
 
 -- ---- sending again
 
--- it is on the list
-abbrev pub On : {A : Type 0} → A → List A → Type 0
-On x [] = ⊥
-On x (y ∷ l) = (x ≡ y) ⊎ On x l
-
 -- un_acked_messages: the messages that wait, of any destination, as a set
 abbrev pub UnAcked : SingleDelivery → Address → Packets
 UnAcked sd src p =
     (p .src ≡ src)
-    × ((dst : Address) × (s : AckState) × (n : ℕ) × (d : Address) × (m : Message) × (sd .sends dst ≡ some s) × On (message n d m) (s .unacked)
+    × ((dst : Address) × (s : AckState) × (n : ℕ) × (d : Address) × (m : Message) × (sd .sends dst ≡ some s) × Among (message n d m) (s .unacked)
     × (p .msg ≡ message n d m) × (p .dst ≡ d))

@@ -13,8 +13,9 @@ use Rattle.keys.specs.Bound.{holds}
 use Rattle.message.specs.Message.{Address}
 use Rattle.protocol.specs.Address.{at}
 use Rattle.protocol.specs.Records.{Value}
+use Rattle.world.specs.Single.{Among}
 use Rattle.upstream.specs.Messages.{Range, Contains, IsEmpty, Hashtable, Len, maxHashtableSize, ValidValue, ValidOptional, maxDelegations, Message, getRequest, setRequest, reply, redirect, shard, delegate, SingleMessage, message, ack, invalid, Packet, Packets, Empty, Only, SameSet}
-use Rattle.upstream.specs.Delivery.{SingleDelivery, fresh, New, Receive, SendSingle, On, UnAcked}
+use Rattle.upstream.specs.Delivery.{SingleDelivery, fresh, New, Receive, SendSingle, UnAcked}
 
 -- AppRequest: it has no sender and no answer
 pub data AppRequest : Type 0 where
@@ -126,7 +127,7 @@ sentList (readsClock ∷ l) = sentList l
 
 -- extract_packets_from_abstract_ios: as a set
 abbrev pub sent : List Io → Packets
-sent l p = On p (sentList l)
+sent l p = Among p (sentList l)
 
 abbrev pub AllSends : List Io → Type 0
 AllSends [] = Unit
@@ -215,10 +216,10 @@ NextSet pre post src seqno k v out =
 
 -- next_delegate: the sender is on the list, or it is not
 pub record NextDelegate (pre post : State) (src : Address) (r : Range) (u : Hashtable) (out : Packets) : Type 0 where
-  pub from-host : On src (pre .constants .hosts)
+  pub from-host : Among src (pre .constants .hosts)
       → (post .delegation ≡ update (pre .delegation) r (pre .constants .me)) × (post .table ≡ bulkUpdate (pre .table) r u)
       × (post .delegations ≡ pre .delegations + 1)
-  pub from-other : (On src (pre .constants .hosts) → ⊥)
+  pub from-other : (Among src (pre .constants .hosts) → ⊥)
       → (post .delegation ≡ pre .delegation) × (post .table ≡ pre .table) × (post .delegations ≡ pre .delegations)
   pub nothing-sent : post .sd .sends ≡ pre .sd .sends
   pub nothing-received : post .sd .received ≡ pre .sd .received
@@ -234,7 +235,7 @@ ShardSent (some sm) pre post r a out =
 
 pub record NextShard (pre post : State) (r : Range) (a : Address) (sm : Option SingleMessage) (out : Packets) : Type 0 where
   pub other : a ≡ pre .constants .me → ⊥
-  pub is-host : On a (pre .constants .hosts)
+  pub is-host : Among a (pre .constants .hosts)
   pub all-mine : AllOf (pre .delegation) r (pre .constants .me)
   pub delivery : SendSingle (pre .sd) (post .sd) (delegate r (extract (pre .table) r)) a sm
   pub constants : pre .constants ≡ post .constants
@@ -245,7 +246,7 @@ pub record NextShard (pre post : State) (r : Range) (a : Address) (sm : Option S
 -- next_shard_wrapper_must_reject
 abbrev pub MustReject : State → Range → Address → Type 0
 MustReject pre r a =
-    (a ≡ pre .constants .me) ⊎ ((ValidAddress a → ⊥) ⊎ (IsEmpty r ⊎ ((On a (pre .constants .hosts) → ⊥) ⊎ ((AllOf (pre .delegation) r (pre .constants .me) → ⊥)
+    (a ≡ pre .constants .me) ⊎ ((ValidAddress a → ⊥) ⊎ (IsEmpty r ⊎ ((Among a (pre .constants .hosts) → ⊥) ⊎ ((AllOf (pre .delegation) r (pre .constants .me) → ⊥)
     ⊎ ((n : ℕ) × Len (extract (pre .table) r) n × (maxHashtableSize ≤ n))))))
 
 -- next_shard_wrapper
@@ -336,7 +337,7 @@ NextStep ignoreUnparseable pre post l = IgnoresUnparseable pre post l
 NextStep ignoreNonsense pre post l = IgnoresNonsense pre post l
 
 abbrev pub NoInvalidSends : List Io → Type 0
-NoInvalidSends l = (p : Packet) → On p (sentList l) → p .msg ≡ invalid → ⊥
+NoInvalidSends l = (p : Packet) → Among p (sentList l) → p .msg ≡ invalid → ⊥
 
 -- next
 pub record Next (pre post : State) (l : List Io) : Type 0 where

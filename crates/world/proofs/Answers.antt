@@ -5,8 +5,9 @@ use mathlib.Core.Bool.{true, false}
 use mathlib.Core.List.{List, [], _∷_, _++_}
 use mathlib.Core.Logic.{_⊎_, inl, ⊎-elim}
 use mathlib.Core.Option.{some, none}
-use Prim.Native.Nat.{ℕ, _<_}
+use Prim.Native.Nat.{ℕ, _+_, _≤_, _<_}
 use native.Mathlib.Omega.{arith}
+use lib.ListN.{length}
 use Rattle.format.specs.Number.{numbers}
 use Rattle.format.specs.Format.{Entry, Above}
 use Rattle.message.specs.Message.{Address, Body, message}
@@ -18,7 +19,7 @@ use Rattle.protocol.specs.Delivery.{Act, got, stored, next, posted}
 use Rattle.protocol.proofs.Addresses.{at-other}
 use Rattle.world.specs.World.{Executed}
 use Rattle.world.specs.Claims.{mine, moves, says}
-use Rattle.world.specs.Single.{acted, tableOf, Right, answer, SameRequest, NotAgain}
+use Rattle.world.specs.Single.{acted, tableOf, Right, answer, SameRequest, SameAnswer, NotAgain}
 use Rattle.world.proofs.Lists.{All, all-map}
 use Rattle.world.proofs.Sums.{among-not}
 use Rattle.world.proofs.Invariant.{States, Moves, way, Kept, Told, Lettered, Core}
@@ -27,12 +28,16 @@ use Rattle.world.proofs.Changes.{at-cases, cell-link, cell-way, Cell, o
 use Rattle.world.proofs.Counts.{no-other, no-transfer}
 use Rattle.world.proofs.Quiet.{locals, maps-kept, freed-cell}
 
--- the request in the room was not carried out before
+-- the request in the room was not carried out before, and its answer's number was given to no other
 not-again : (e : Executed) (l : List Executed)
-    → All (λ f. f .host ≡ e .host → f .request .from ≡ e .request .from → f .request .number < e .request .number) l → NotAgain e l
-not-again e [] A = tt
-not-again e (f ∷ l) A =
-    ((λ (s : SameRequest e f). let u : f .request .number < e .request .number = A .0 (sym (s .0)) (sym (s .1)) in omega (arith, u, s .2)), not-again e l (A .1))
+    → All (λ f. f .host ≡ e .host → f .request .from ≡ e .request .from → f .request .number < e .request .number) l
+    → All (λ f. f .host ≡ e .host → f .request .from ≡ e .request .from → f .answer < e .answer) l → NotAgain e l
+not-again e [] A B = tt
+not-again e (f ∷ l) A B = (
+  (λ (s : SameRequest e f). let u : f .request .number < e .request .number = A .0 (sym (s .0)) (sym (s .1)) in omega (arith, u, s .2)),
+  (λ (s : SameAnswer e f). let u : f .answer < e .answer = B .0 (sym (s .0)) (sym (s .1)) in omega (arith, u, s .2)),
+  not-again e l (A .1) (B .1),
+)
 
 module _ {H : List Address} {S : States} {E : List Executed} {M C : Moves} (K : Core H S E M C) (x : Address) (isHost : among x H ≡ true)
     (l : Letter) (there : S x .room ≡ some l) (strange : among (l .from) H ≡ false) (act : Act) (es : List Entry) (t : ℕ) where
@@ -83,7 +88,17 @@ module _ {H : List Address} {S : States} {E : List Executed} {M C : Moves} (K : 
         (λ m p w. absurd (p w)) (way S a b) (no-transfer H S k (K .one k) x isHost s a b e f))
         (changes k));
     answered = (right, K .answered);
-    once = (not-again request E (letter .undone), K .once);
+    once = (
+      not-again request E (letter .undone)
+          (all-map (λ f. f .host ≡ x → f .answer ≤ S x .acknowledged (f .request .from) + length (S x .waiting (f .request .from)))
+          (λ f. f .host ≡ x → f .request .from ≡ l .from → f .answer < next (S x) (l .from))
+          (λ f told p q.
+          let a : S x .acknowledged (f .request .from) ≡ S x .acknowledged (l .from) = ap (S x .acknowledged) q in
+          let b : length (S x .waiting (f .request .from)) ≡ length (S x .waiting (l .from)) = ap (λ (z : Address). length (S x .waiting z)) q in
+          let c = told p in
+          omega (arith, a, b, c)) E (K .local x isHost .told)),
+      K .once,
+    );
   }
     where
       cell : (a b : Address) → among a H ≡ true → among b H ≡ true → Cell S M C (at x answering S) M C a b

@@ -6,7 +6,7 @@ use mathlib.Core.List.{List, [], _∷_}
 use Prim.Native.Nat.{ℕ}
 use Rattle.keys.specs.declared.Bound.the-variants.{Key, End}
 use Rattle.format.specs.Number.{digits, worth}
-use Rattle.message.specs.Message.{Address, message, ack, shard, delegate}
+use Rattle.message.specs.Message.{Address, message, ack, delegate}
 use Rattle.message.specs.Table.{written}
 use Rattle.decoding.specs.Decode.{listOf, valueOf}
 use Rattle.protocol.specs.State.{fresh}
@@ -15,15 +15,11 @@ use Rattle.protocol.specs.Receive.{receive}
 use Rattle.world.specs.World.{World, begin}
 use Rattle.world.specs.Events.{after, run}
 use Rattle.world.specs.Claims.{host, transfer, claims}
-use Rattle.world.proofs.Scripts.{A, B, asks, brings, works, works-mutely}
+use Rattle.world.proofs.Scripts.{given, D, crossing, A, B, works}
 
 -- bytes arrive at h in the name of a host that has not handed them out to h
 abbrev invented : World → (h from : Address) → List ℕ → World
 invented W h from s = after W h 9 (receive true (W .state h) from s)
-
--- the range [0, 10) is on its way from A to B
-abbrev given : World
-given = run (begin A (B ∷ [])) (asks A (message 1 A (shard (Key 0) (Key 10) B)) ∷ works A ∷ [])
 
 -- ---- an Ack is invented in B's name: A forgets the transfer, and its keys are nobody's
 
@@ -39,23 +35,6 @@ two-owners = refl
 
 -- ---- an Ack is brought to another host than its addressee. Acks have no destination in them, so D takes B's Ack of A's transfer for one of its own,
 -- and forgets it
-
-abbrev D : Address
-D = 0x64 ∷ []
-
-abbrev crossing : World
-crossing =
-    run (begin A (B ∷ D ∷ []))
-    (asks A (message 1 A (shard (Key 0) (Key 10) D))
-    ∷ works A
-    ∷ brings D 1
-    ∷ works D
-    ∷ asks D (message 1 D (shard (Key 0) (Key 10) B))
-    ∷ works-mutely D
-    ∷ asks A (message 2 A (shard (Key 20) (Key 30) B))
-    ∷ works A
-    ∷ brings B 5
-    ∷ [])
 
 wrong-addressee : (claims crossing 5 ≡ transfer D B 0 ∷ []) × (claims (invented crossing D B (written (ack 1))) 5 ≡ [])
 unfolding digits worth listOf valueOf

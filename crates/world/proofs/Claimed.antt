@@ -2,8 +2,8 @@
 -- Assumes nothing.
 use mathlib.Core.Path.{_≡_, refl, sym, ap, ap₂, _∙_, subst}
 use mathlib.Core.Bool.{Bool, true, false, cond, false≢true}
-use mathlib.Core.List.{List, [], _∷_, _++_}
-use mathlib.Core.Logic.{_⊎_, inl, inr, ⊎-elim}
+use mathlib.Core.List.{List, [], _∷_}
+use mathlib.Core.Logic.{inl, inr, ⊎-elim}
 use mathlib.Core.Option.{some, Option·some-injective, Option·none-ne-some}
 use Prim.Native.Nat.{ℕ, zero, suc, _+_}
 use native.Mathlib.Omega.{arith}
@@ -18,6 +18,7 @@ use Rattle.world.specs.Events.{nth}
 use Rattle.world.specs.Claims.{mine, onTheWay, moves, Claim, host, transfer, hostClaims, wayClaims, claimsFrom, transferClaims, claims}
 use Rattle.world.specs.Single.{Among}
 use Rattle.world.specs.Theorem.{IsHost, Has, OneOwner}
+use Rattle.world.proofs.Lists.{among-left, among-right, among-either}
 use Rattle.world.proofs.Sums.{sum, first-or, later}
 use Rattle.world.proofs.Invariant.{bit, own, moving, ways, total}
 
@@ -28,19 +29,6 @@ one-or-none true c = refl
 one-or-none false c = refl
 
 module _ {A : Type 0} where
-  among-left : (x : A) (l m : List A) → Among x l → Among x (l ++ m)
-  among-left x (y ∷ l) m (inl e) = inl e
-  among-left x (y ∷ l) m (inr a) = inr (among-left x l m a)
-
-  among-right : (x : A) (l m : List A) → Among x m → Among x (l ++ m)
-  among-right x [] m a = a
-  among-right x (y ∷ l) m a = inr (among-right x l m a)
-
-  among-either : (x : A) (l m : List A) → Among x (l ++ m) → Among x l ⊎ Among x m
-  among-either x [] m a = inr a
-  among-either x (y ∷ l) m (inl e) = inl (inl e)
-  among-either x (y ∷ l) m (inr a) = ⊎-elim (λ p. inl (inr p)) (λ p. inr p) (among-either x l m a)
-
   -- a list of one
   only : (l : List A) → length l ≡ 1 → (x : A) × Among x l × ((y : A) → Among y l → y ≡ x)
   only [] e = absurd (omega (arith, e))

@@ -2,7 +2,7 @@
 -- Assumes nothing.
 use mathlib.Core.Path.{_≡_, refl, sym, ap, subst}
 use mathlib.Core.List.{List, [], _∷_, _++_}
-use mathlib.Core.Logic.{inl, inr}
+use mathlib.Core.Logic.{_⊎_, inl, inr, ⊎-elim}
 use mathlib.Core.Option.{some, Option·some-injective, Option·none-ne-some}
 use Prim.Native.Nat.{ℕ, zero, suc, _+_, _≤_, _<_}
 use native.Mathlib.Omega.{arith}
@@ -51,6 +51,22 @@ module _ {A : Type 0} (P : A → Type 0) where
 pub all-map : {A : Type 0} (P Q : A → Type 0) → ((x : A) → P x → Q x) → (l : List A) → All P l → All Q l
 all-map P Q f [] p = tt
 all-map P Q f (x ∷ l) p = (f x (p .0), all-map P Q f l (p .1))
+
+-- ---- on the list
+
+module _ {A : Type 0} where
+  pub among-left : (x : A) (l m : List A) → Among x l → Among x (l ++ m)
+  among-left x (y ∷ l) m (inl e) = inl e
+  among-left x (y ∷ l) m (inr a) = inr (among-left x l m a)
+
+  pub among-right : (x : A) (l m : List A) → Among x m → Among x (l ++ m)
+  among-right x [] m a = a
+  among-right x (y ∷ l) m a = inr (among-right x l m a)
+
+  pub among-either : (x : A) (l m : List A) → Among x (l ++ m) → Among x l ⊎ Among x m
+  among-either x [] m a = inr a
+  among-either x (y ∷ l) m (inl e) = inl (inl e)
+  among-either x (y ∷ l) m (inr a) = ⊎-elim (λ p. inl (inr p)) (λ p. inr p) (among-either x l m a)
 
 -- ---- the nth element
 

@@ -26,13 +26,12 @@ use Rattle.world.specs.Events.{noted}
 use Rattle.world.specs.Claims.{mine, inRoom, moves, says}
 use Rattle.world.specs.Single.{tableOf}
 use Rattle.world.proofs.Lists.{All, all-append, drop-append}
-use Rattle.world.proofs.Sums.{among-not}
 use Rattle.world.proofs.Links.{Fair, link-more, link-count}
 use Rattle.world.proofs.Invariant.{States, Moves, LinkOf, way, bit, own, moving, ways, Kept, Local, Core}
 use Rattle.world.proofs.Local.{local-done, local-posted}
 use Rattle.world.proofs.Changes.{at-cases, keep, at-self, noted-there, noted-else, Cell, link-as, way-as, cell-link, cell-way}
 use Rattle.world.proofs.Counts.{moving-append}
-use Rattle.world.proofs.Quiet.{locals}
+use Rattle.world.proofs.Quiet.{locals, no-way}
 use Rattle.world.proofs.Kept.{all-kept}
 use Rattle.world.proofs.Given.{given-in, given-out, given-host, test, one-moved, pair-cases}
 
@@ -62,14 +61,8 @@ module _ {H : List Address} {S : States} {E : List Executed} {M C : Moves} (K : 
       (all-kept Kept (λ j. not (holds lo hi j)) (S x .records) (K .local x isHost .kept)))
       refl a transfer small valid (K .local x isHost .hosts-known a recipient) tt
 
-  -- the Shard was on its way from no host
-  no-shard : (p : Address) → among p H ≡ true → inRoom p (S x .room) ≡ []
-  no-shard p e =
-      let u : same (l .from) p ≡ false = same-false (l .from) p (λ q. among-not p (l .from) H e strange (sym q)) in
-      ap (inRoom p) there ∙ rw u refl
-
   room-same : (p q : Address) → among p H ≡ true → inRoom p (U q .room) ≡ inRoom p (S q .room)
-  room-same p q e = keep x f S (λ y. inRoom p (y .room)) q (λ w. sym (no-shard p e) ∙ ap (λ (z : Address). inRoom p (S z .room)) (sym w))
+  room-same p q e = keep x f S (λ y. inRoom p (y .room)) q (λ w. sym (no-way H S x l there strange p e) ∙ ap (λ (z : Address). inRoom p (S z .room)) (sym w))
 
   received-same : (p q : Address) → U q .received p ≡ S q .received p
   received-same p q = keep x f S (λ y. y .received p) q (λ w. ap (λ (z : Address). S z .received p) (sym w))

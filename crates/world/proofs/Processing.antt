@@ -1,7 +1,7 @@
 -- Processing is fine, row by row of document 01's table. What a host has sent is a transfer and is carried out; all else comes from strangers.
 -- Assumes nothing.
 use mathlib.Core.Path.{_≡_, refl, sym, ap, ap₂, _∙_, subst}
-use mathlib.Core.Bool.{Bool, true, false, cond, _&&_, _||_, not, false≢true}
+use mathlib.Core.Bool.{Bool, true, false, cond, _||_, not, false≢true}
 use mathlib.Core.List.{List, [], _∷_, _++_, append-nil}
 use mathlib.Core.Logic.{_⊎_, inl, inr}
 use mathlib.Core.Option.{Option, none, some, Option·some-injective, Option·none-ne-some}
@@ -9,7 +9,7 @@ use Prim.Native.Nat.{ℕ, suc, _+_, _-_, _≤_, _<_}
 use native.Mathlib.Omega.{arith}
 use lib.ListN.{length}
 use lib.Dec.{eqb, ltb, leb}
-use borrow.Author.Tests.{ne-eqb, eqb-true, ltb-true, ltb-false}
+use borrow.Author.Tests.{not-false, ne-eqb, eqb-true, ltb-true, ltb-false}
 use Rattle.limits.specs.Limits.{valueMax, entriesLimit, bytesMax, transfersLimit}
 use Rattle.keys.specs.declared.Bound.{Bound}
 use Rattle.keys.specs.Bound.{below, holds}
@@ -18,14 +18,14 @@ use Rattle.format.specs.Format.{Entry, Above, Good, maybe}
 use Rattle.message.specs.Message.{Address, Body, get, set, reply, redirect, shard, delegate, message}
 use Rattle.message.specs.Table.{address, value, written, Valid}
 use Rattle.decoding.specs.Decode.{same}
-use Rattle.decoding.proofs.Decided.{same-true, same-refl}
+use Rattle.decoding.proofs.Decided.{same-refl}
 use Rattle.protocol.specs.Address.{among, at}
 use Rattle.protocol.specs.Records.{Value, look, setting, inRange, outside, replacing}
 use Rattle.protocol.specs.Owners.{ownerOf, giving, whole}
 use Rattle.protocol.specs.State.{Host, Letter, done, different, short}
 use Rattle.protocol.specs.Delivery.{Packet, Outcome, Request, Act, got, stored, still, next, posted, packet, numbered, idle, stuck, replied, redirected, dropped, unnumbered, accepted, handed}
 use Rattle.protocol.specs.Process.{free, answering, onGet, long, keeping, onSet, anyLong, unfit, onDelegate, refused, handing, onShard, onBody, onLetter, process}
-use Rattle.protocol.proofs.Addresses.{or-right}
+use Rattle.protocol.proofs.Addresses.{or-right, neither, short-among}
 use Rattle.protocol.proofs.Entries.{look-setting, above-setting}
 use Rattle.protocol.proofs.Whole.{whole-all}
 use Rattle.world.specs.World.{Executed, World}
@@ -47,29 +47,10 @@ use Rattle.world.proofs.Net.{Grows, Goes, Fine, fine-same}
 
 -- ---- tests
 
-neither-of : (s t : Bool) → s || t ≡ false → (s ≡ false) × (t ≡ false)
-neither-of true t e = absurd (false≢true (sym e))
-neither-of false t e = (refl, e)
-
-was-true : (t : Bool) → not t ≡ false → t ≡ true
-was-true true e = refl
-was-true false e = absurd (false≢true (sym e))
-
 none-of : (s t : Bool) → s ≡ false → t ≡ false → s || t ≡ false
 none-of s t e f = rw e f
 
 -- ---- what may be written
-
--- a host's address is short
-pub host-short : (l : List Address) → short l ≡ true → (a : Address) → among a l ≡ true → length a < bytesMax
-host-short [] s a e = absurd (false≢true e)
-host-short (b ∷ l) s a e = go (ltb (length b) bytesMax) refl s (same a b) refl e (host-short l)
-  where
-    go : (t : Bool) → ltb (length b) bytesMax ≡ t → t && short l ≡ true → (u : Bool) → same a b ≡ u → u || among a l ≡ true
-        → (short l ≡ true → (z : Address) → among z l ≡ true → length z < bytesMax) → length a < bytesMax
-    go true p q true r w f = let v : length a ≡ length b = ap length (same-true a b r) in omega (arith, v, ltb-true (length b) bytesMax p)
-    go true p q false r w f = f q a w
-    go false p q u r w f = absurd (false≢true q)
 
 good-address : (a : Address) → length a < bytesMax → Good address a
 good-address a s = (s, omega (arith, s))
@@ -150,7 +131,7 @@ module _ {H : List Address} {W : World} (A : Always H W) (d : different H ≡ tr
       fine-redirected k small true e =
           let n : next (W .state x) (l .from) < numbers = ltb-true (next (W .state x) (l .from)) numbers e in
           let v = valid-redirect (next (W .state x) (l .from)) (l .from) k (ownerOf (W .state x .owners) k) n (R .short) small
-          (host-short H s (ownerOf (W .state x .owners) k) (L .owner-in k)) in record {
+          (short-among H s (ownerOf (W .state x .owners) k) (L .owner-in k)) in record {
             core = core-told (A .core) x isHost l there strange (W .state x .transfers) (l .from) strange (redirect k (ownerOf (W .state x .owners) k)) n v (R .known) (L .owner-in k);
             grows = grows-by (posted (l .from) (redirect k (ownerOf (W .state x .owners) k)) (free (W .state x))) (λ c. refl) (W .executed) (W .made) (λ y c n b T. T)
                 nothing-made;
@@ -285,37 +266,37 @@ module _ {H : List Address} {W : World} (A : Always H W) (d : different H ≡ tr
           })
         where
           first : (same a (W .state x .me) ≡ false) × ((not (among a (W .state x .hosts)) || (not (below lo hi) || (not (whole lo hi (W .state x .me) (W .state x .owners)) || leb entriesLimit (length (inRange lo hi (W .state x .records)))))) ≡ false)
-          first = neither-of _ _ e
+          first = neither _ _ e
 
           second : (not (among a (W .state x .hosts)) ≡ false) × ((not (below lo hi) || (not (whole lo hi (W .state x .me) (W .state x .owners)) || leb entriesLimit (length (inRange lo hi (W .state x .records))))) ≡ false)
-          second = neither-of _ _ (first .1)
+          second = neither _ _ (first .1)
 
           third : (not (below lo hi) ≡ false) × ((not (whole lo hi (W .state x .me) (W .state x .owners)) || leb entriesLimit (length (inRange lo hi (W .state x .records)))) ≡ false)
-          third = neither-of _ _ (second .1)
+          third = neither _ _ (second .1)
 
           fourth : (not (whole lo hi (W .state x .me) (W .state x .owners)) ≡ false) × (leb entriesLimit (length (inRange lo hi (W .state x .records))) ≡ false)
-          fourth = neither-of _ _ (third .1)
+          fourth = neither _ _ (third .1)
 
           recipient : among a H ≡ true
-          recipient = ap (among a) (sym (L .hosts-are)) ∙ was-true _ (second .0)
+          recipient = ap (among a) (sym (L .hosts-are)) ∙ not-false _ (second .0)
 
           other : a ≡ x → ⊥
           other q = false≢true (sym (first .0) ∙ ap (same a) me-is ∙ ap (λ (z : Address). same z x) q ∙ same-refl x)
 
           all-mine : (k : ℕ) → holds lo hi k ≡ true → ownerOf (W .state x .owners) k ≡ x
-          all-mine k q = whole-all lo hi (W .state x .me) (W .state x .owners) (was-true _ (fourth .0)) k q ∙ me-is
+          all-mine k q = whole-all lo hi (W .state x .me) (W .state x .owners) (not-false _ (fourth .0)) k q ∙ me-is
 
           bounds : Valid (message (l .number) x (shard lo hi a))
           bounds = subst (λ (z : Body). Valid (message (l .number) x z)) is (R .valid)
 
           fair : Fair (delegate lo hi (inRange lo hi (W .state x .records)))
-          fair = fair-range lo hi (W .state x .records) (L .sorted) (L .kept) (was-true _ (third .0)) (fourth .1) (bounds .1 .1 .1 .1 .0 .0) (bounds .1 .1 .1 .1 .0 .1)
+          fair = fair-range lo hi (W .state x .records) (L .sorted) (L .kept) (not-false _ (third .0)) (fourth .1) (bounds .1 .1 .1 .1 .0 .0) (bounds .1 .1 .1 .1 .0 .1)
 
           small : next (W .state x) a < numbers
           small = ltb-true (next (W .state x) a) numbers n
 
           good : Valid (message (next (W .state x) a) a (delegate lo hi (inRange lo hi (W .state x .records))))
-          good = (omega arith, (small, (good-address a (host-short H s a recipient), fair-good (delegate lo hi (inRange lo hi (W .state x .records))) fair)))
+          good = (omega arith, (small, (good-address a (short-among H s a recipient), fair-good (delegate lo hi (inRange lo hi (W .state x .records))) fair)))
 
           more : (p q : Address) → (z : List Body) × (noted x a (delegate lo hi (inRange lo hi (W .state x .records))) (W .made) p q ≡ W .made p q ++ z)
           more p q =

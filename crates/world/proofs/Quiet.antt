@@ -169,7 +169,7 @@ module _ {H : List Address} {S : States} {E : List Executed} {M C : Moves} (K : 
 
 module _ (H : List Address) (S : States) (x : Address) (l : Letter) (there : S x .room ≡ some l) (strange : among (l .from) H ≡ false) where
   -- it was on its way from no host
-  no-way : (a : Address) → among a H ≡ true → inRoom a (S x .room) ≡ []
+  pub no-way : (a : Address) → among a H ≡ true → inRoom a (S x .room) ≡ []
   no-way a e =
       let u : same (l .from) a ≡ false = same-false (l .from) a (λ q. among-not a (l .from) H e strange (sym q)) in
       ap (inRoom a) there ∙ rw u refl

@@ -1,7 +1,7 @@
 -- Receiving is fine, whatever arrives from a stranger, and if what comes from a host was handed out by it.
 -- Assumes nothing.
 use mathlib.Core.Path.{_≡_, refl, sym, ap, _∙_, subst}
-use mathlib.Core.Bool.{Bool, true, false, _&&_, false≢true, cond}
+use mathlib.Core.Bool.{Bool, true, false, _&&_, cond, and-eq-true-iff}
 use mathlib.Core.List.{List, [], _∷_, _++_, append-nil}
 use mathlib.Core.Option.{Option, none, some}
 use Prim.Native.Nat.{ℕ, suc, _≤_, _<_}
@@ -39,11 +39,6 @@ with-self a l = go (among a l) refl
     go : (t : Bool) → among a l ≡ t → among a (cond t l (l ++ (a ∷ []))) ≡ true
     go true e = e
     go false e = among-snoc a a l ∙ or-right (among a l) (same a a) (same-refl a)
-
--- both of two tests pass
-both : (s t : Bool) → s && t ≡ true → (s ≡ true) × (t ≡ true)
-both true t e = (refl, e)
-both false t e = absurd (false≢true e)
 
 module _ {H : List Address} {W : World} (A : Always H W) (x : Address) (isHost : among x H ≡ true) (a : Address) (s : List ℕ)
     (F : From H (W .state) (W .executed) (W .made) x a s) where
@@ -109,7 +104,7 @@ module _ {H : List Address} {W : World} (A : Always H W) (x : Address) (isHost :
     fine-ack : (n : ℕ) → Valid (ack n) → (among a H ≡ true → n ≤ W .state a .received x)
         → (more : Bool) → (among a (W .state x .peers) && ltb (W .state x .acknowledged a) n) ≡ more → Fine H W x (onAck more (W .state x) a n)
     fine-ack n v P true e =
-        let less : W .state x .acknowledged a < n = ltb-true (W .state x .acknowledged a) n (both (among a (W .state x .peers)) (ltb (W .state x .acknowledged a) n) e .1) in record {
+        let less : W .state x .acknowledged a < n = ltb-true (W .state x .acknowledged a) n (and-eq-true-iff (among a (W .state x .peers)) (ltb (W .state x .acknowledged a) n) .0 e .1) in record {
           core = core-confirmed (A .core) x isHost a n less (v .1) P;
           grows = record {
             received = λ y c. at-cases x (confirmed a n (W .state x)) (W .state) (λ g. W .state y .received c ≤ g .received c) y

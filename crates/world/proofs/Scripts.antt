@@ -4,13 +4,17 @@ use mathlib.Core.Path.{_≡_, refl}
 use mathlib.Core.Bool.{true}
 use mathlib.Core.List.{List, [], _∷_, _++_}
 use mathlib.Core.Option.{some}
-use Prim.Native.Nat.{ℕ}
+use Prim.Native.Nat.{ℕ, zero, suc}
 use lib.ListN.{length, drop}
 use Rattle.keys.specs.declared.Bound.the-variants.{Key, End}
+use Rattle.limits.specs.Limits.{entriesLimit}
 use Rattle.format.specs.Number.{digits, worth}
-use Rattle.message.specs.Message.{Address, Datagram, get, set, reply, shard, delegate, message}
+use Rattle.format.specs.Format.{Entry}
+use Rattle.message.specs.Message.{Address, Datagram, get, set, reply, shard, delegate, message, ack}
 use Rattle.message.specs.Table.{written}
 use Rattle.decoding.specs.Decode.{listOf, valueOf}
+use Rattle.protocol.specs.Address.{at}
+use Rattle.protocol.specs.State.{fresh, done}
 use Rattle.protocol.specs.Delivery.{Act, got, stored}
 use Rattle.world.specs.World.{Executed, World, begin}
 use Rattle.world.specs.Events.{network, stranger, receiving, processing, retransmitting, Event, nth, run}
@@ -167,3 +171,61 @@ returning =
 returning-stays : claims returning 5 ≡ host A ∷ []
 unfolding digits worth listOf valueOf
 returning-stays = refl
+
+-- ---- the limit on entries: a range with as many as a Delegate may not have is not handed over, and stays where it is
+
+-- n entries
+entries : ℕ → List Entry
+entries zero = []
+entries (suc n) = entries n ++ (record { key = n; value = [] } ∷ [])
+
+-- A holds the most that cannot be handed over
+full : World
+full = record {
+  hosts = A ∷ B ∷ [];
+  state = at A (done (fresh A (A ∷ B ∷ []) A .owners) (entries entriesLimit) 1 (fresh A (A ∷ B ∷ []) A)) (begin A (B ∷ []) .state);
+  sent = [];
+  executed = [];
+  made = λ a b. [];
+  carried = λ a b. [];
+}
+
+full-stays : claims (run full (asks A (message 1 A (shard (Key 0) End B)) ∷ works A ∷ brings B 1 ∷ works B ∷ [])) 5 ≡ host A ∷ []
+unfolding entries full digits worth listOf valueOf
+full-stays = refl
+
+-- ---- the network: bytes in a host's name that the host has not handed out do not arrive, nor does what is another's
+
+-- the range [0, 10) is on its way from A to B
+abbrev pub given : World
+given = run (begin A (B ∷ [])) (asks A (message 1 A (shard (Key 0) (Key 10) B)) ∷ works A ∷ [])
+
+abbrev pretends : Event
+pretends = record { host = A; move = receiving (stranger B (written (ack 1))) true; out = 9 }
+
+pretends-nothing : claims (run given (pretends ∷ [])) 5 ≡ transfer A B 0 ∷ []
+unfolding digits worth listOf valueOf
+pretends-nothing = refl
+
+abbrev pub D : Address
+D = 0x64 ∷ []
+
+-- A's and D's transfers to B have the same number; B has received A's, and its Ack was handed out for A
+abbrev pub crossing : World
+crossing =
+    run (begin A (B ∷ D ∷ []))
+    (asks A (message 1 A (shard (Key 0) (Key 10) D))
+    ∷ works A
+    ∷ brings D 1
+    ∷ works D
+    ∷ asks D (message 1 D (shard (Key 0) (Key 10) B))
+    ∷ works-mutely D
+    ∷ asks A (message 2 A (shard (Key 20) (Key 30) B))
+    ∷ works A
+    ∷ brings B 5
+    ∷ [])
+
+-- the Ack is brought to D: it is not D's, and does not arrive
+crossing-waits : (claims crossing 5 ≡ transfer D B 0 ∷ []) × (claims (run crossing (brings D 6 ∷ [])) 5 ≡ transfer D B 0 ∷ [])
+unfolding digits worth listOf valueOf
+crossing-waits = (refl, refl)

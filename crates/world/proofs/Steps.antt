@@ -18,13 +18,14 @@ use Rattle.protocol.specs.State.{Host, turned, different, short}
 use Rattle.protocol.specs.Delivery.{Packet, Step, numberedFrom, waits, resent}
 use Rattle.protocol.specs.Retransmit.{toAll, retransmit}
 use Rattle.protocol.specs.Turn.{round, kind, resending, byKind, ended, turn}
+use Rattle.protocol.proofs.Addresses.{short-among}
 use Rattle.world.specs.World.{Sent, Executed, World}
 use Rattle.world.specs.Events.{Source, network, stranger, Move, receiving, processing, retransmitting, turning, Event, nth, brought, isStranger, arrival, optional, onArrival, stepOf, after, step, run}
 use Rattle.world.proofs.Lists.{All, all-append, all-map, all-nth, nth-drop, drop-drop}
 use Rattle.world.proofs.Invariant.{States, Moves, Outgoing, Local, Speaks, Spoken, Always}
 use Rattle.world.proofs.Net.{Goes, Fine, fine-same, always-after, From, packetOf}
 use Rattle.world.proofs.Receiving.{fine-receive}
-use Rattle.world.proofs.Processing.{host-short, fine-process}
+use Rattle.world.proofs.Processing.{fine-process}
 
 -- ---- the count of turns is in no clause
 
@@ -120,7 +121,7 @@ module _ {H : List Address} {W : World} (A : Always H W) (d : different H ≡ tr
 
   from-host : (p : Sent) → Spoken H (W .state) (W .executed) (W .made) p → (t : Bool) → same (p .to) x ≡ t → Arrives (cond t (some (p .from, p .bytes)) none)
   from-host p P true e = record {
-    short = host-short H s (p .from) (P .from);
+    short = short-among H s (p .from) (P .from);
     host = λ h. subst (λ (z : Address). Spoken H (W .state) (W .executed) (W .made) (record { from = p .from; to = z; bytes = p .bytes })) (same-true (p .to) x e) P;
   }
   from-host p P false e = tt

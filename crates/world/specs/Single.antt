@@ -51,10 +51,14 @@ Among x (y ∷ l) = (x ≡ y) ⊎ Among x l
 abbrev pub SameRequest : Executed → Executed → Type 0
 SameRequest e f = (e .host ≡ f .host) × (e .request .from ≡ f .request .from) × (e .request .number ≡ f .request .number)
 
--- no request of the list is that one, and none is there twice
+-- a message of the same host to the same client with the same number
+abbrev pub SameAnswer : Executed → Executed → Type 0
+SameAnswer e f = (e .host ≡ f .host) × (e .request .from ≡ f .request .from) × (e .answer ≡ f .answer)
+
+-- no request of the list is that one, none was answered by the same message, and so for all of them
 abbrev pub NotAgain : Executed → List Executed → Type 0
 NotAgain e [] = Unit
-NotAgain e (f ∷ l) = (SameRequest e f → ⊥) × NotAgain e l
+NotAgain e (f ∷ l) = (SameRequest e f → ⊥) × (SameAnswer e f → ⊥) × NotAgain e l
 
 abbrev pub Once : List Executed → Type 0
 Once [] = Unit

@@ -74,7 +74,7 @@ pub record Holds (W : World) : Type 0 where
   pub one-owner : (k : ℕ) → OneOwner W k
   pub one-claim : (k : ℕ) → length (claims W k) ≡ 1
   pub transfers : (a b : Address) → IsHost W a → IsHost W b → Transfers W a b
-  -- the requests were answered as one table would have, each was carried out once, and every Reply is such an answer
+  -- the requests were answered as one table would have, each was carried out once and answered by a message of its own, and every Reply is such an answer
   pub answered : Answered (W .executed)
   pub once : Once (W .executed)
   pub replies : (p : Sent) → Among p (W .sent) → Replies W p

@@ -30,7 +30,7 @@ pub record World : Type 0 where
   pub made : (from to : Address) → List Body
   pub carried : (from to : Address) → List Body
 
--- Where all begins: every host of the list was started with the list. `Theorem.starts` says that these are the states that starting gives
+-- Where all begins: every host of the list was started with the list. The law `starts` says that these are the states that starting gives
 abbrev pub begin : Address → List Address → World
 begin first others = record {
   hosts = first ∷ others;
