@@ -1,7 +1,7 @@
 -- The laws of an Ack: what the places hold and memory keeps once the messages that arrived no longer wait, and what a pass over the places leaves.
 -- Assumes nothing.
 use mathlib.Core.Path.{_≡_, refl, sym, ap, _∙_, subst}
-use mathlib.Core.Logic.{⊎-elim}
+use mathlib.Core.Logic.{⊎-elim, _⊎_, inl, inr}
 use mathlib.Core.List.{List, []}
 use Prim.Native.Nat.{ℕ, suc, _+_, _-_, _*_, _/_, _≤_, _<_}
 use native.Mathlib.Numerals.{add-one}
@@ -13,7 +13,7 @@ use Rattle.memory.specs.Bytes.{part}
 use Rattle.delivery.specs.Post.{Post, last, confirmed}
 use Rattle.delivery.specs.Memory.{Holding, Keeps, acknowledgedOf, lastOf, capacity, markAt, numberAt, lengthAt, datagramAt}
 use Rattle.delivery.proofs.Laws.{at-same, at-other, at-all}
-use Rattle.confirming.specs.Answers.{Cleared}
+use Rattle.confirming.specs.Answers.{Cleared, One, Freed, Ahead}
 
 -- ---- what waits
 
@@ -251,3 +251,101 @@ module _ {places : List ℕ} {mark x p : ℕ} {places′ : List ℕ} (C : Passed
     numbers = λ q. getD-set-other places′ (p * 3) (q * 3 + 1) 0 0 (λ d. omega arith) ∙ C .numbers q;
     lengths = λ q. getD-set-other places′ (p * 3) (q * 3 + 2) 0 0 (λ d. omega arith) ∙ C .lengths q;
   }
+
+-- ---- one place alone
+
+module _ {places : List ℕ} {mark x p : ℕ} where
+  -- it is freed
+  pub freed-at : p < capacity places → markAt places p ≡ mark → numberAt places p ≡ x → Freed places mark x (set places (p * 3) 0)
+  freed-at within m l = record {
+    long = length-set places (p * 3) 0;
+    is = inl (
+      p,
+      record {
+        within = within;
+        marked = m;
+        numbered = l;
+        gone = getD-set-same places (p * 3) 0 0 (omega (arith, within));
+        other = λ q d. getD-set-other places (p * 3) (q * 3) 0 0 (λ e. d (omega (arith, e)));
+      },
+    );
+    numbers = λ q. getD-set-other places (p * 3) (q * 3 + 1) 0 0 (λ d. omega arith);
+    lengths = λ q. getD-set-other places (p * 3) (q * 3 + 2) 0 0 (λ d. omega arith);
+  }
+
+-- there is none
+pub freed-none : {places : List ℕ} {mark x : ℕ} → ((q : ℕ) → q < capacity places → markAt places q ≡ mark → numberAt places q ≡ x → ⊥) → Freed places mark x places
+freed-none n = record { long = refl; is = inr (refl, n); numbers = λ q. refl; lengths = λ q. refl }
+
+-- what waits for a peer is above what it has acknowledged
+pub ahead-kept : {counts places mail : List ℕ} {size n : ℕ} {P : Post} {i : ℕ} → Keeps counts places mail size n P → i < n
+    → Ahead places (i + 1) (acknowledgedOf counts i)
+ahead-kept {counts} {places} {mail} {size} {n} {P} {i} K h = record {
+  above = λ p w m. let o = K .holding .only p i w (m ∙ add-one i) in omega (arith, o .1, K .acknowledged i h);
+  apart = λ p q v w m k e. K .holding .apart p q v w (omega (arith, m)) (m ∙ sym k) e;
+}
+
+-- if only the next number can wait, that is all that an Ack of it confirms
+pub freed-clears : {places : List ℕ} {mark before x : ℕ} {places′ : List ℕ} → Ahead places mark before → before + 1 ≡ x → Freed places mark x places′
+    → Cleared places mark x places′
+freed-clears {places} {mark} {before} {x} {places′} A e F = record {
+  long = F .long;
+  gone = λ p h m l. gone p h m l (F .is);
+  other = λ p h u. other p h u (F .is);
+  numbers = λ p h. F .numbers p;
+  lengths = λ p h. F .lengths p;
+}
+  where
+    exact : (p : ℕ) → p < capacity places → markAt places p ≡ mark → numberAt places p ≤ x → numberAt places p ≡ x
+    exact p h m l = let a = A .above p h m in omega (arith, a, e, l)
+
+    gone : (p : ℕ) → p < capacity places → markAt places p ≡ mark → numberAt places p ≤ x
+        → ((q : ℕ) × One places mark x q places′) ⊎ ((places′ ≡ places) × ((q : ℕ) → q < capacity places → markAt places q ≡ mark → numberAt places q ≡ x → ⊥))
+        → markAt places′ p ≡ 0
+    gone p h m l (inl (q, O)) =
+        let d : p ≡ q = A .apart p q h (O .within) m (O .marked) (exact p h m l ∙ sym (O .numbered)) in
+        subst (λ (j : ℕ). markAt places′ j ≡ 0) (sym d) (O .gone)
+    gone p h m l (inr (same, none)) = absurd (none p h m (exact p h m l))
+
+    other : (p : ℕ) → p < capacity places → (markAt places p ≡ mark → x < numberAt places p)
+        → ((q : ℕ) × One places mark x q places′) ⊎ ((places′ ≡ places) × ((q : ℕ) → q < capacity places → markAt places q ≡ mark → numberAt places q ≡ x → ⊥))
+        → markAt places′ p ≡ markAt places p
+    other p h u (inl (q, O)) = ⊎-elim
+        (λ (d : p ≡ q).
+        let m : markAt places p ≡ mark = ap (markAt places) d ∙ O .marked in
+        let k : numberAt places p ≡ x = ap (numberAt places) d ∙ O .numbered in
+        absurd (omega (arith, u m, k)))
+        (λ d. O .other p d)
+        (eq-or-ne p q)
+    other p h u (inr (same, none)) = ap (λ (l : List ℕ). markAt l p) same
+
+-- the first p places are looked at, and none is the one
+pub record Sought (places : List ℕ) (mark x p : ℕ) (places′ : List ℕ) : Type 0 where
+  pub long : length places′ ≡ length places
+  pub same : places′ ≡ places
+  pub none : (q : ℕ) → q < p → markAt places′ q ≡ mark → numberAt places′ q ≡ x → ⊥
+
+pub sought-none : (places : List ℕ) (mark x : ℕ) → Sought places mark x 0 places
+sought-none places mark x = record { long = refl; same = refl; none = λ q h. absurd (omega (arith, h)) }
+
+module _ {places : List ℕ} {mark x p : ℕ} {places′ : List ℕ} (S : Sought places mark x p places′) where
+  -- nor is the next
+  pub sought-next : (markAt places′ p ≡ mark → numberAt places′ p ≡ x → ⊥) → Sought places mark x (p + 1) places′
+  sought-next u = record {
+    long = S .long;
+    same = S .same;
+    none = λ q h m e. ⊎-elim
+        (λ l. S .none q l m e)
+        (λ l.
+        let d : q ≡ p = omega (arith, h, l) in
+        u (ap (markAt places′) (sym d) ∙ m) (ap (numberAt places′) (sym d) ∙ e))
+        (lt-or-ge q p);
+  }
+
+  -- the next is
+  pub sought-found : p < capacity places′ → markAt places′ p ≡ mark → numberAt places′ p ≡ x → Freed places mark x (set places′ (p * 3) 0)
+  sought-found h m e = subst (λ (l : List ℕ). Freed l mark x (set places′ (p * 3) 0)) (S .same) (freed-at h m e)
+
+  -- there are no more
+  pub sought-all : capacity places′ ≤ p → Freed places mark x places′
+  sought-all l = subst (λ (d : List ℕ). Freed d mark x places′) (S .same) (freed-none (λ q h. S .none q (omega (arith, h, l))))

@@ -1,7 +1,10 @@
 // Addresses to small numbers, in lent memory: `names` has the addresses at a stride of `width` bytes, and
 // `lens` how long each is; the first n count. A peer's number never changes. What memory keeps, and what
 // each answer says, stands in specs/Names.antt; nothing is asked of a caller.
+use format::NumberRead;
+use format::WIDTH;
 ghost use mathlib.Core.Path.{_≡_};
+ghost use mathlib.Core.Bool.{true};
 ghost use Prim.Native.Nat.{min, _+_, _*_, _/_, _≤_, _<_};
 ghost use lib.ListN.{length};
 ghost use Rattle.peers.specs.Names.{Standing, AfterFind, AfterName, AfterAdd};
@@ -74,7 +77,30 @@ fn is_at(names: &[u8], width: usize, i: usize, len: usize, address: &[u8]) -> bo
     }
     let from = i * width;
     let to = from + len;
+    if apart(&names[from..to], address) {
+        return false;
+    }
     memory::same(&names[from..to], address)
+}
+
+// Do they differ in their last eight bytes? That is one comparison, and in most addresses those differ that
+// are not the same.
+fn apart(a: &[u8], b: &[u8]) -> bool
+    ensures { λ r. ⌜ (r ≡ true → now (a .entry) ≡ now (b .entry) → ⊥) ⌝ }
+{
+    if a.len() < WIDTH {
+        return false;
+    }
+    if b.len() < WIDTH {
+        return false;
+    }
+    let NumberRead::Is(x) = format::number(a, a.len() - WIDTH) else {
+        return false;
+    };
+    let NumberRead::Is(y) = format::number(b, b.len() - WIDTH) else {
+        return false;
+    };
+    x != y
 }
 
 // Where is the peer's address?
