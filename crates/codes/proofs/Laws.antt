@@ -7,9 +7,9 @@ use Rattle.hosts.specs.declared.Processed.{Processed}
 use Rattle.hosts.specs.declared.Processed.the-variants.{Idle, Stuck, Replied, Redirected, Dropped, Unnumbered, Accepted, Handed}
 use Rattle.receiving.specs.declared.Received.{Received}
 use Rattle.receiving.specs.declared.Received.the-variants.{Full, Invalid, Elsewhere, Taken, Unreceived, Again, Future, Arrived, Stale, Unfit as TooShort}
-use Rattle.turning.specs.declared.Turned.{Turned}
-use Rattle.turning.specs.declared.Turned.the-variants.{Came, Did, Resent, Waits, Unfit as NotLent}
-use Rattle.turning.specs.Answers.{unfit as tooShort, refuses}
+use Rattle.rounds.specs.declared.Turned.{Turned}
+use Rattle.rounds.specs.declared.Turned.the-variants.{Came, Did, Resent, Waits, Unfit as NotLent}
+use Rattle.rounds.specs.Answers.{unfit as tooShort, refuses}
 use Rattle.codes.specs.Codes.{unfit, receivedCode, processedCode, turnedCode}
 
 pub received-refused : (o : Received) → receivedCode o ≡ unfit → o ≡ TooShort

@@ -11,8 +11,8 @@ use Rattle.receiving.specs.declared.Received.{Received}
 use Rattle.receiving.specs.declared.Received.the-variants.{Full, Invalid, Elsewhere, Taken, Unreceived, Again, Future, Arrived, Stale, Unfit as TooShort}
 use Rattle.repeating.specs.declared.Repeated.{Repeated}
 use Rattle.repeating.specs.declared.Repeated.the-variants.{Places, NoRoom}
-use Rattle.turning.specs.declared.Turned.{Turned}
-use Rattle.turning.specs.declared.Turned.the-variants.{Came, Did, Resent, Waits, Unfit as NotLent}
+use Rattle.rounds.specs.declared.Turned.{Turned}
+use Rattle.rounds.specs.declared.Turned.the-variants.{Came, Did, Resent, Waits, Unfit as NotLent}
 
 -- what was lent does not serve: nothing was done
 abbrev pub unfit : ℕ

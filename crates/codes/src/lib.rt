@@ -2,7 +2,7 @@
 use hosts::Processed;
 use receiving::Received;
 use repeating::Repeated;
-use turning::Turned;
+use rounds::Turned;
 ghost use mathlib.Core.Path.{_≡_};
 ghost use Rattle.codes.specs.Codes.{receivedCode, processedCode, processedPlace, repeatedCode, turnedCode, turnedPlace, auditedCode};
 

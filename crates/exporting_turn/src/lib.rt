@@ -1,7 +1,7 @@
 // A turn of a host whose numbers stand in lent words: the three kinds of step in rotation.
 use numbers::PLACE;
 use numbers::WORDS;
-use turning::Ended;
+use rounds::Ended;
 ghost use Rattle.hosts.specs.Memory.{memory};
 ghost use Rattle.exporting_turn.specs.Answers.{Turning, KeptTurn};
 

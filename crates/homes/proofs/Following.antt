@@ -30,9 +30,11 @@ use Rattle.receiving.specs.Answers.{ackLength, sendsOf as receivedSends, AfterR
 use Rattle.repeating.specs.declared.Repeated.{Repeated}
 use Rattle.repeating.specs.declared.Repeated.the-variants.{Places, NoRoom}
 use Rattle.repeating.specs.Answers.{AfterRepeat, packets}
-use Rattle.turning.specs.declared.Turned.{Turned}
-use Rattle.turning.specs.declared.Turned.the-variants.{Unfit as TooShort}
-use Rattle.turning.specs.Answers.{Lent, arriving, AfterTurn, sendsOf as turnedSends}
+use Rattle.rounds.specs.declared.Turned.{Turned}
+use Rattle.rounds.specs.declared.Turned.the-variants.{Unfit as TooShort}
+use Rattle.rounds.specs.Answers.{sendsOf as turnedSends}
+use Rattle.arriving.specs.Answers.{arriving}
+use Rattle.turning.specs.Answers.{Lent, AfterTurn}
 use Rattle.world.specs.World.{Sent, World}
 use Rattle.world.specs.Events.{Source, Move, receiving, processing, retransmitting, turning, Event, arrival, optional, sentBy, onArrival, stepOf, after, step, run}
 use Rattle.world.proofs.Changes.{at-cases, at-same-state}

@@ -20,8 +20,10 @@ use Rattle.processing.specs.Answers.{AfterProcess}
 use Rattle.repeating.specs.declared.Repeated.{Repeated}
 use Rattle.repeating.specs.declared.Repeated.the-variants.{Places, NoRoom}
 use Rattle.repeating.specs.Answers.{AfterRepeat, packets}
-use Rattle.turning.specs.declared.Ended.{Ended}
-use Rattle.turning.specs.Answers.{AfterTurn, sendsOf as turnedSends, arriving}
+use Rattle.rounds.specs.declared.Ended.{Ended}
+use Rattle.rounds.specs.Answers.{sendsOf as turnedSends}
+use Rattle.arriving.specs.Answers.{arriving}
+use Rattle.turning.specs.Answers.{AfterTurn}
 use Rattle.world.specs.World.{Sent}
 use Rattle.world.specs.Events.{Source, arrival, optional, sentBy}
 

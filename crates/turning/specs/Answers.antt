@@ -2,74 +2,22 @@
 -- Assumes nothing.
 use mathlib.Core.Path.{_≡_}
 use mathlib.Core.Bool.{Bool, true, false}
-use mathlib.Core.List.{List, []}
-use mathlib.Core.Option.{Option, none, some}
-use Prim.Native.Nat.{ℕ, _+_, _%_, _≤_}
+use mathlib.Core.List.{List}
+use Prim.Native.Nat.{ℕ, _≤_}
 use lib.ListN.{length}
-use lib.Dec.{eqb}
 use Rattle.message.specs.Message.{Address}
 use Rattle.delivery.specs.Memory.{capacity}
 use Rattle.protocol.specs.State.{Host}
-use Rattle.protocol.specs.Delivery.{Packet, Step, Outcome, full, resent, waits}
-use Rattle.protocol.specs.Turn.{round, kind, arriving as onArrival, resending, ended, turn}
+use Rattle.protocol.specs.Turn.{kind, turn}
 use Rattle.hosts.specs.declared.State.{State}
 use Rattle.hosts.specs.Memory.{Memory, memory}
 use Rattle.hosts.specs.Limits.{fitsRoom}
 use Rattle.hosts.specs.Keeps.{limitsOf, Keeps}
-use Rattle.hosts.specs.Answers.{outcomeOf as processed, sendsOf as processedSends}
-use Rattle.receiving.specs.declared.Received.{Received}
-use Rattle.receiving.specs.declared.Received.the-variants.{Full, Invalid, Elsewhere, Taken, Unreceived, Again, Future, Arrived, Stale, Unfit as TooShort}
-use Rattle.receiving.specs.Answers.{ackLength, Tested, outcomeOf as received, sendsOf as receivedSends}
-use Rattle.repeating.specs.Answers.{packets}
-use Rattle.turning.specs.declared.Turned.{Turned}
-use Rattle.turning.specs.declared.Turned.the-variants.{Came, Did, Resent, Waits, Unfit}
-use Rattle.turning.specs.declared.Ended.{Ended}
-
-abbrev pub unfit : Received → Bool
-unfit Full = false
-unfit Invalid = false
-unfit Elsewhere = false
-unfit Taken = false
-unfit Unreceived = false
-unfit Again = false
-unfit Future = false
-unfit Arrived = false
-unfit Stale = false
-unfit TooShort = true
-
--- the outcome by the definition's name. (Unfit is none of them: the step was not taken)
-abbrev pub outcomeOf : Turned → Outcome
-outcomeOf (Came r) = received r
-outcomeOf (Did r) = processed r
-outcomeOf (Resent n) = resent
-outcomeOf Waits = waits
-outcomeOf Unfit = full
-
--- the step was not taken
-abbrev pub refuses : Turned → Bool
-refuses (Came r) = unfit r
-refuses (Did r) = false
-refuses (Resent n) = false
-refuses Waits = false
-refuses Unfit = true
-
--- the datagrams that are handed out: an Ack, the one in a place, or those in the places that were written down
-abbrev pub sendsOf : Memory → State → Address → (ack out : List ℕ) → Turned → List Packet
-sendsOf m k a ack out (Came r) = receivedSends a ack r
-sendsOf m k a ack out (Did r) = processedSends m k r
-sendsOf m k a ack out (Resent n) = packets m k n out
-sendsOf m k a ack out Waits = []
-sendsOf m k a ack out Unfit = []
-
--- the datagram that has arrived, if one has
-abbrev pub arriving : Bool → Address → List ℕ → Option (Address × List ℕ)
-arriving true a s = some (a, s)
-arriving false a s = none
-
-pub record Turns (m : Memory) (k : State) (room : List ℕ) (a : Address) (ack out : List ℕ) (r : Turned) (s : Step) : Type 0 where
-  pub keeps : Keeps m k room (s .state)
-  pub outcome : outcomeOf r ≡ s .outcome
-  pub sends : sendsOf m k a ack out r ≡ s .sends
+use Rattle.receiving.specs.Answers.{ackLength, Tested, outcomeOf as received}
+use Rattle.rounds.specs.declared.Turned.the-variants.{Unfit}
+use Rattle.rounds.specs.declared.Ended.{Ended}
+use Rattle.rounds.specs.Answers.{refuses, Turns}
+use Rattle.arriving.specs.Answers.{arriving}
 
 -- what was lent for an Ack and for the places of what is sent again is long enough
 pub record Lent (m : Memory) (ack out : List ℕ) : Type 0 where
@@ -85,41 +33,3 @@ pub record AfterTurn (m : Memory) (k : State) (room : List ℕ) (arrived : Bool)
       × Turns m′ (r .state) room′ a ack′ out′ (r .outcome) (turn roomy (fitsRoom (length (m .slots)) h (h .room)) h (arriving arrived a s))
   pub fit : Lent m ack out → refuses (r .outcome) ≡ false
   pub refused : (Lent m ack out → ⊥) → (r .outcome ≡ Unfit) × (r .state ≡ k) × (m′ ≡ m) × (room′ ≡ room) × (ack′ ≡ ack) × (out′ ≡ out)
-
--- ---- its parts
-
--- the host's numbers with its turn over
-abbrev pub overOf : State → State
-overOf k = record {
-  me = k .me;
-  hosts = k .hosts;
-  peers = k .peers;
-  width = k .width;
-  size = k .size;
-  bounds = k .bounds;
-  entries = k .entries;
-  len = k .len;
-  from = k .from;
-  transfers = k .transfers;
-  turns = (k .turns + 1) % round;
-}
-
--- too little was lent: nothing is done
-abbrev pub refusal : State → Ended
-refusal k = record { state = k; outcome = Unfit; place = 0 }
-
--- a turn for receiving
-pub record AfterArrive (m : Memory) (k : State) (room : List ℕ) (arrived : Bool) (a : Address) (s ack : List ℕ) (r : Ended) (m′ : Memory) (room′ ack′ : List ℕ)
-    : Type 0 where
-  pub is : (h : Host) → Keeps m k room h → ackLength ≤ length ack → (out : List ℕ)
-      → (roomy : Bool) × (arrived ≡ true → Tested (limitsOf m k room) h a s roomy)
-      × Turns m′ (r .state) room′ a ack′ out (r .outcome) (ended (onArrival roomy h (arriving arrived a s)))
-  pub fit : ackLength ≤ length ack → refuses (r .outcome) ≡ false
-
--- a turn for sending again
-pub record AfterAgain (counts places : List ℕ) (k : State) (out : List ℕ) (r : Ended) (out′ : List ℕ) : Type 0 where
-  pub is : (lows owners keys slots lens values nameLens names mail room : List ℕ) (h : Host)
-      → Keeps (memory lows owners keys slots lens values nameLens names counts places mail) k room h → capacity places ≤ length out → (a : Address) (ack : List ℕ)
-      → Turns (memory lows owners keys slots lens values nameLens names counts places mail) (r .state) room a ack out′ (r .outcome)
-      (ended (resending (eqb (h .turns + 1) round) h))
-  pub fit : refuses (r .outcome) ≡ false

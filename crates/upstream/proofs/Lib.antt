@@ -8,3 +8,7 @@ pub mod Accepts
 pub mod Runs
 pub mod Marshalling
 pub mod Maps
+pub mod Keys
+pub mod Vectors
+pub mod Endpoints
+pub mod Told

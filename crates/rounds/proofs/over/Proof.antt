@@ -1,9 +1,9 @@
--- `turning::over` meets its contract.
+-- `rounds::over` meets its contract.
 -- Assumes nothing.
 use borrow.Author.Needs.{needs}
-use Rattle.turning.proofs.over.Statement.{statement}
-use Rattle.turning.proofs.over.Tie as tie
-use Rattle.turning.proofs.Laws.{goes-on}
+use Rattle.rounds.proofs.over.Statement.{statement}
+use Rattle.rounds.proofs.over.Tie as tie
+use Rattle.rounds.proofs.Laws.{goes-on}
 
 add-t3 : tie.Need-add-t3
 add-t3 c = search needs

@@ -1,10 +1,10 @@
--- `turning::arrive` meets its contract.
+-- `arriving::arrive` meets its contract.
 -- Assumes nothing.
 use mathlib.Core.Path.{refl}
 use borrow.Author.Needs.{needs}
-use Rattle.turning.proofs.arrive.Statement.{statement}
-use Rattle.turning.proofs.arrive.Tie as tie
-use Rattle.turning.proofs.Laws.{none-arrived, one-arrived}
+use Rattle.arriving.proofs.arrive.Statement.{statement}
+use Rattle.arriving.proofs.arrive.Tie as tie
+use Rattle.arriving.proofs.Laws.{none-arrived, one-arrived}
 use borrow.Author.Tests.{not-true, not-false}
 
 over-requires : tie.Need-over-requires

@@ -1,10 +1,10 @@
--- `turning::again` meets its contract.
+-- `rounds::again` meets its contract.
 -- Assumes nothing.
 use native.Mathlib.Omega.{arith}
 use borrow.Author.Needs.{needs}
-use Rattle.turning.proofs.again.Statement.{statement}
-use Rattle.turning.proofs.again.Tie as tie
-use Rattle.turning.proofs.Laws.{not-due, due, has-room, repeat-as}
+use Rattle.rounds.proofs.again.Statement.{statement}
+use Rattle.rounds.proofs.again.Tie as tie
+use Rattle.rounds.proofs.Laws.{not-due, due, has-room, repeat-as}
 
 sub-if1 : tie.Need-sub-if1
 sub-if1 c = search needs
