@@ -8,6 +8,9 @@
 //   1 COUNT (FUNCTION ARGUMENT*48)*    calls the functions in turn, and answers what each returned
 //   2 AT LENGTH                        answers so many bytes of the arena
 //   3 AT LENGTH BYTE*                  writes bytes into the arena, and answers nothing
+//   4 COUNT (AT LENGTH)*               keeps these parts of the arena in mind, and answers nothing
+//   5 BYTE*                            writes bytes into these parts, one after the other, and answers nothing
+//   6                                  answers the bytes of these parts
 //
 // It ends when its input does; with status 2 for a question that has no sense. It includes no header, so
 // that no C library for x86-64 has to be installed.
@@ -35,13 +38,25 @@ static function *const functions[] = {
 #define FUNCTIONS (sizeof functions / sizeof *functions)
 
 static unsigned char arena[ARENA] __attribute__((aligned(64)));
-static unsigned char buffer[65536];
-static word filled, taken;
+static unsigned char buffer[65536], answered[65536];
+static word filled, taken, kept;
+
+// Answers are kept and go out together, before the program waits for more input or when there is no room for more.
+static void give_kept(void) {
+  const unsigned char *next = answered;
+  while (kept != 0) {
+    long gone = write(1, next, kept);
+    if (gone <= 0) _exit(1);
+    next += gone;
+    kept -= (word)gone;
+  }
+}
 
 // The next bytes of the input. Where it ends, so does the program.
 static void take(unsigned char *to, word length) {
   while (length != 0) {
     if (taken == filled) {
+      give_kept();
       long got = read(0, buffer, sizeof buffer);
       if (got <= 0) _exit(0);
       filled = (word)got;
@@ -64,10 +79,12 @@ static word take_word(void) {
 static void give(const void *from, word length) {
   const unsigned char *next = from;
   while (length != 0) {
-    long gone = write(1, next, length);
-    if (gone <= 0) _exit(1);
-    next += gone;
-    length -= (word)gone;
+    if (kept == sizeof answered) give_kept();
+    word part = sizeof answered - kept < length ? sizeof answered - kept : length;
+    __builtin_memcpy(answered + kept, next, part);
+    kept += part;
+    next += part;
+    length -= part;
   }
 }
 
@@ -91,13 +108,66 @@ static void calls(void) {
   give(answers, count * sizeof *answers);
 }
 
+#define MOST_PARTS 64
+#define MOST_IN_PARTS 8192
+static word parts, ats[MOST_PARTS], lengths[MOST_PARTS], in_parts;
+static unsigned char bytes[MOST_IN_PARTS];
+
+static void keep_parts(void) {
+  parts = take_word();
+  if (MOST_PARTS < parts) _exit(2);
+  in_parts = 0;
+  for (word i = 0; i < parts; i++) {
+    ats[i] = take_word();
+    lengths[i] = take_word();
+    if (ARENA < ats[i] || ARENA - ats[i] < lengths[i] || MOST_IN_PARTS - in_parts < lengths[i]) _exit(2);
+    in_parts += lengths[i];
+  }
+}
+
+// A loop in its place and no call: under an emulator a return takes longer than a short copy.
+static inline __attribute__((always_inline)) void copy(unsigned char *to, const unsigned char *from, word length) {
+  word i = 0;
+  for (; i + 8 <= length; i += 8) {
+    word w;
+    __builtin_memcpy(&w, from + i, 8);
+    __builtin_memcpy(to + i, &w, 8);
+    __asm__ volatile("" ::: "memory");
+  }
+  for (; i < length; i++) {
+    to[i] = from[i];
+    __asm__ volatile("" ::: "memory");
+  }
+}
+
+static void write_parts(void) {
+  take(bytes, in_parts);
+  unsigned char *next = bytes;
+  for (word i = 0; i < parts; i++) {
+    copy(arena + ats[i], next, lengths[i]);
+    next += lengths[i];
+  }
+}
+
+static void read_parts(void) {
+  unsigned char *next = bytes;
+  for (word i = 0; i < parts; i++) {
+    copy(next, arena + ats[i], lengths[i]);
+    next += lengths[i];
+  }
+  give(bytes, in_parts);
+}
+
 int main(void) {
   word start = (word)arena;
   give(&start, sizeof start);
   for (;;) {
     word kind = take_word();
-    if (kind == 1) {
-      calls();
+    if (kind == 1 || kind == 4 || kind == 5 || kind == 6) {
+      if (kind == 1) calls();
+      if (kind == 4) keep_parts();
+      if (kind == 5) write_parts();
+      if (kind == 6) read_parts();
       continue;
     }
     word at = take_word(), length = take_word();

@@ -2,7 +2,12 @@
 //!
 //! Memory that a proved function is lent lies in that program, as columns: a test makes them, writes and reads
 //! them. Around each column lie bytes that nothing may write, and `check_guards` sees that nothing has.
-use crate::bound::Bound;
+mod call;
+mod column;
+
+pub use call::Call;
+pub use column::Column;
+
 use std::io::{BufReader, BufWriter, Read, Write};
 use std::process::{Child, ChildStdin, ChildStdout, Command, Stdio};
 
@@ -19,6 +24,9 @@ const GUARDED: u8 = 0xa5;
 const CALL: u64 = 1;
 const READ: u64 = 2;
 const WRITE: u64 = 3;
+const KEEP_PARTS: u64 = 4;
+const WRITE_PARTS: u64 = 5;
+const READ_PARTS: u64 = 6;
 
 pub struct Library {
     program: Child,
@@ -27,22 +35,13 @@ pub struct Library {
     address: u64,
     used: usize,
     guards: Vec<usize>,
+    /// Is there more in its memory than 0?
+    used_before: bool,
 }
 
-/// Memory of the program that can be lent: where it starts, and how many elements of which size it has.
-#[derive(Clone, Copy, Debug)]
-pub struct Column {
-    at: usize,
-    len: usize,
-    size: usize,
-}
-
-/// A call of one of the functions, put together argument by argument.
-#[derive(Clone, Copy, Debug)]
-pub struct Call {
-    words: [u64; 1 + ARGUMENTS],
-    next: usize,
-    address: u64,
+/// Memory that columns can be read from: the program's, or what was read of it before.
+pub trait Memory {
+    fn read(&mut self, columns: &[Column]) -> Vec<Vec<u8>>;
 }
 
 impl Library {
@@ -69,9 +68,18 @@ impl Library {
             address: 0,
             used: 0,
             guards: Vec::new(),
+            used_before: false,
         };
         library.address = library.answer();
         library
+    }
+
+    /// The same program without any columns, for the next who needs one: a new one has to translate all code anew.
+    pub fn emptied(mut self) -> Library {
+        self.check_guards();
+        (self.used, self.used_before) = (0, true);
+        self.guards.clear();
+        self
     }
 
     /// A column of numbers, all 0.
@@ -92,6 +100,9 @@ impl Library {
         for guard in [at - GUARD, end] {
             self.put(guard, &[GUARDED; GUARD]);
             self.guards.push(guard);
+        }
+        if self.used_before {
+            self.put(at, &vec![0; len * size]);
         }
         Column { at, len, size }
     }
@@ -123,21 +134,30 @@ impl Library {
         numbers(&self.part(column.at, len * 8))
     }
 
-    /// The bytes of each of the columns, in few exchanges. Of more questions than the pipe has room for the program
-    /// would not read the last before its answers to the first are read.
-    pub fn read(&mut self, columns: &[Column]) -> Vec<Vec<u8>> {
-        let mut bytes = Vec::with_capacity(columns.len());
-        for some in columns.chunks(MOST_READS) {
-            self.ask_for(some);
-            self.flush();
-            bytes.extend(self.parts(some));
-        }
-        bytes
-    }
-
     pub fn write_bytes(&mut self, column: Column, bytes: &[u8]) {
         assert!(column.size == 1 && bytes.len() <= column.len);
         self.put(column.at, bytes);
+    }
+
+    /// These columns are the ones that `write_parts` and `ask_parts` mean, with all their bytes one after the other.
+    pub fn keep_parts(&mut self, columns: &[Column]) {
+        self.ask(&[KEEP_PARTS, columns.len() as u64]);
+        for (from, to) in columns.iter().map(|column| column.span()) {
+            self.ask(&[from as u64, (to - from) as u64]);
+        }
+    }
+
+    pub fn write_parts(&mut self, parts: &[&[u8]]) {
+        self.ask(&[WRITE_PARTS]);
+        for bytes in parts {
+            let sent = self.input.write_all(bytes);
+            sent.expect("the program with the proved code has ended");
+        }
+    }
+
+    /// Asks for the bytes of the parts, which `receive` takes.
+    pub fn ask_parts(&mut self) {
+        self.ask(&[READ_PARTS]);
     }
 
     /// The same byte everywhere in a column.
@@ -151,7 +171,8 @@ impl Library {
         self.put(column.at + from * 8, &bytes);
     }
 
-    fn ask_for(&mut self, columns: &[Column]) {
+    /// Asks for the bytes of the columns, which `receive` takes in the same order.
+    pub fn ask_for(&mut self, columns: &[Column]) {
         for column in columns {
             let len = column.len * column.size;
             self.ask(&[READ, column.at as u64, len as u64]);
@@ -209,12 +230,17 @@ impl Library {
 
     /// What a call answered, and the bytes of each of the columns after it, in one exchange.
     pub fn call_and_read(&mut self, call: Call, columns: &[Column]) -> (u64, Vec<Vec<u8>>) {
-        self.ask(&[CALL, 1]);
-        self.ask(&call.words);
+        self.ask_call(call);
         self.ask_for(columns);
         self.flush();
         let answer = self.answer();
         (answer, self.parts(columns))
+    }
+
+    /// Asks for a call, and leaves it to later to take its answer. What is asked and not taken has to fit the pipes.
+    pub fn ask_call(&mut self, call: Call) {
+        self.ask(&[CALL, 1]);
+        self.ask(&call.words);
     }
 
     /// Calls in turn, and what each answered.
@@ -240,73 +266,46 @@ impl Library {
         }
     }
 
-    fn flush(&mut self) {
+    pub fn flush(&mut self) {
         let sent = self.input.flush();
         sent.expect("the program with the proved code has ended");
     }
 
-    fn answer(&mut self) -> u64 {
+    pub fn answer(&mut self) -> u64 {
         let mut word = [0; 8];
         self.receive(&mut word);
         u64::from_le_bytes(word)
     }
 
-    fn receive(&mut self, bytes: &mut [u8]) {
+    pub fn receive(&mut self, bytes: &mut [u8]) {
         let received = self.output.read_exact(bytes);
         received.expect("the program with the proved code has ended");
     }
 }
 
+impl Memory for Library {
+    /// The bytes of each of the columns, in few exchanges. Of more questions than the pipe has room for the program
+    /// would not read the last before its answers to the first are read.
+    fn read(&mut self, columns: &[Column]) -> Vec<Vec<u8>> {
+        let mut bytes = Vec::with_capacity(columns.len());
+        for some in columns.chunks(MOST_READS) {
+            self.ask_for(some);
+            self.flush();
+            bytes.extend(self.parts(some));
+        }
+        bytes
+    }
+}
+
 impl Drop for Library {
-    /// Ends the program. That it has ended already, as after a failure, is no fault here.
+    /// In the end nothing was written outside what was lent. Ends the program; that it has ended already, as after a
+    /// failure, is no fault here.
     fn drop(&mut self) {
+        if !std::thread::panicking() {
+            self.check_guards();
+        }
         let _ = self.program.kill();
         let _ = self.program.wait();
-    }
-}
-
-impl Column {
-    #[allow(clippy::len_without_is_empty)]
-    pub fn len(self) -> usize {
-        self.len
-    }
-
-    /// The first elements alone, to lend less than there is.
-    pub fn first(self, len: usize) -> Column {
-        self.part(0, len)
-    }
-
-    /// Some of the elements alone.
-    pub fn part(self, from: usize, len: usize) -> Column {
-        assert!(from <= self.len && len <= self.len - from);
-        let at = self.at + from * self.size;
-        Column { at, len, ..self }
-    }
-}
-
-impl Call {
-    pub fn number(mut self, number: u64) -> Call {
-        self.words[self.next] = number;
-        self.next += 1;
-        self
-    }
-
-    pub fn count(self, count: usize) -> Call {
-        self.number(count as u64)
-    }
-
-    /// A slice: its address and its length.
-    pub fn lend(self, column: Column) -> Call {
-        let address = self.address + column.at as u64;
-        self.number(address).count(column.len)
-    }
-
-    /// A bound: is it end, and else its key.
-    pub fn bound(self, bound: Bound) -> Call {
-        match bound {
-            Bound::Key(key) => self.number(0).number(key),
-            Bound::End => self.number(1).number(0),
-        }
     }
 }
 

@@ -173,6 +173,7 @@ fn play(seed: u64, operations: usize, room: usize, spread: Spread, width: usize)
         operation: &"the end",
     };
     run.check_everything(at);
+    println!("{operations} operations");
     run
 }
 

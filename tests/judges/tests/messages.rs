@@ -271,7 +271,8 @@ fn datagrams_that_may_not_be_written() {
 fn random_datagrams_written() {
     let mut writer = Writer::default();
     let mut draw = Draw::new(2);
-    for _ in 0..10_000 {
+    let writes = 10_000;
+    for _ in 0..writes {
         let datagram = drawn::datagram(&mut draw);
         let len = written(&datagram).len();
         let room = match draw.below(3) {
@@ -282,4 +283,5 @@ fn random_datagrams_written() {
         check_write(&mut writer, &datagram, room);
     }
     writer.library.check_guards();
+    println!("{writes} written or refused");
 }

@@ -369,6 +369,7 @@ fn play(seed: u64, operations: usize, spread: Spread) -> Counts {
             run.check_everything(at);
         }
     }
+    println!("{operations} operations");
     run.counts
 }
 

@@ -1,10 +1,12 @@
 //! The proved host and the model, taken through the same operations. Whatever differs ends the test, with the shortest
 //! script that shows it.
+use super::answers::named;
 use super::lent::{Slice, TRANSFERS, TURNS, WORDS};
 use super::operation::Operation;
-use super::proved::{resent, step, Proved, KEPT, STARTED};
+use super::proved::{Proved, KEPT, STARTED};
 use super::seen::Seen;
 use super::shortest::shortest;
+use crate::library::Library;
 use crate::messages::hex;
 use crate::models::host::{Address, Host, Limits, Outcome, Packet, Step};
 
@@ -28,10 +30,21 @@ pub struct Both {
 impl Both {
     /// The host with the own address `me`, in memory with exactly these limits.
     pub fn start(limits: Limits, hosts: &[&[u8]], me: &[u8], look: Look) -> Both {
+        Both::start_in(Library::start(), limits, hosts, me, look)
+    }
+
+    /// The same in the memory of that program.
+    pub fn start_in(
+        library: Library,
+        limits: Limits,
+        hosts: &[&[u8]],
+        me: &[u8],
+        look: Look,
+    ) -> Both {
         let hosts: Vec<Address> = hosts.iter().map(|host| host.to_vec()).collect();
         let model = Host::start(limits, &hosts, me).expect("the model starts");
         let mut both = Both {
-            proved: Proved::new(limits),
+            proved: Proved::new_in(library, limits),
             model,
             hosts,
             look,
@@ -83,6 +96,8 @@ impl Both {
     /// Ends the test: the hosts differ after the operations of the journal.
     fn fail(&mut self, difference: String) -> ! {
         let journal = std::mem::take(&mut self.journal);
+        // A difference that was found late shows sooner, so that the script becomes shorter.
+        self.look = Look::EachTime;
         let script = shortest(self, journal, difference);
         let name = &self.name;
         panic!("{name}: the proved host differs from the model\n{script}");
@@ -91,11 +106,14 @@ impl Both {
     /// What both do, or where they differ.
     pub fn try_play(&mut self, operation: &Operation) -> Result<Step, String> {
         let want = Both::play_model(&mut self.model, operation);
-        let found = self.play_proved(operation)?;
-        same_step(&found, &want)?;
-        if self.look == Look::EachTime {
-            self.look()?;
+        if self.look == Look::WhenAsked || operation.is_change() {
+            let found = self.play_proved(operation)?;
+            same_step(&found, &want)?;
+            return Ok(want);
         }
+        let (answer, audit, seen) = self.proved.answered_and_seen(operation);
+        same_step(&named(operation, answer)?, &want)?;
+        same_host(audit, seen, &self.model)?;
         Ok(want)
     }
 
@@ -124,12 +142,6 @@ impl Both {
     fn play_proved(&mut self, operation: &Operation) -> Result<Step, String> {
         let lent = self.proved.lent;
         let (slice, at, words) = match operation {
-            Operation::Receive { from, datagram } => {
-                return step(self.proved.receive(from, datagram));
-            }
-            Operation::Process => return step(self.proved.process()),
-            Operation::Retransmit => return resent(self.proved.retransmit()),
-            Operation::Turn(arrived) => return step(self.proved.turn(slices(arrived))),
             Operation::Numbers {
                 of,
                 received,
@@ -142,8 +154,12 @@ impl Both {
             }
             Operation::Transfers(count) => (Slice::Numbers, TRANSFERS, vec![*count]),
             Operation::Turns(count) => (Slice::Numbers, TURNS, vec![*count]),
+            step => return named(step, self.proved.answered(step)),
         };
         self.proved.library.write_numbers(lent[slice], at, &words);
+        if self.look == Look::EachTime {
+            self.look()?;
+        }
         Ok(Step::still(Outcome::Waits))
     }
 
@@ -156,24 +172,9 @@ impl Both {
 
     /// Does memory keep a host, and is all that can be seen of the hosts the same?
     fn look(&mut self) -> Result<(), String> {
-        match self.proved.audit() {
-            KEPT => {}
-            other => return Err(format!("the audit answers {other}")),
-        }
-        let found = Seen::of_memory(&mut self.proved.library, &self.proved.lent)?;
-        match found.difference(&Seen::of_model(&self.model)) {
-            Some(difference) => Err(difference),
-            None => Ok(()),
-        }
-    }
-}
-
-impl Drop for Both {
-    /// In the end nothing was written outside what was lent.
-    fn drop(&mut self) {
-        if !std::thread::panicking() {
-            self.proved.library.check_guards();
-        }
+        let audit = self.proved.audit();
+        let seen = Seen::of_memory(&mut self.proved.library, &self.proved.lent);
+        same_host(audit, seen, &self.model)
     }
 }
 
@@ -182,7 +183,18 @@ fn slices(arrived: &Option<(Address, Vec<u8>)>) -> Option<(&[u8], &[u8])> {
     arrived.map(|(from, datagram)| (&from[..], &datagram[..]))
 }
 
-fn same_step(found: &Step, want: &Step) -> Result<(), String> {
+/// Does memory keep a host, and is all that can be seen of it what it should be?
+pub fn same_host(audit: u64, seen: Result<Seen, String>, model: &Host) -> Result<(), String> {
+    if audit != KEPT {
+        return Err(format!("the audit answers {audit}"));
+    }
+    match seen?.difference(&Seen::of_model(model)) {
+        Some(difference) => Err(difference),
+        None => Ok(()),
+    }
+}
+
+pub fn same_step(found: &Step, want: &Step) -> Result<(), String> {
     if found.outcome != want.outcome {
         return Err(format!("{:?} instead of {:?}", found.outcome, want.outcome));
     }

@@ -53,6 +53,11 @@ pub const RECEIVING: [Slice; 10] = [
 /// Those that sending again is lent.
 pub const RESENDING: [Slice; 3] = [Counts, Places, Numbers];
 
+/// All but the values, the mail and the room, of which little is in use: these say where.
+pub const WORDY: [Slice; 10] = [
+    Numbers, Lows, Owners, Keys, Slots, Lens, NameLens, Counts, Places, Names,
+];
+
 #[derive(Clone, Copy, Debug)]
 pub struct Lent {
     columns: [Column; ALL.len()],

@@ -25,6 +25,22 @@ pub enum Operation {
     Turns(u64),
 }
 
+impl Operation {
+    /// Is it a change from outside and no step?
+    pub fn is_change(&self) -> bool {
+        use Operation::{Numbers, Transfers, Turns};
+        matches!(self, Numbers { .. } | Transfers(_) | Turns(_))
+    }
+
+    /// Who has sent what arrives with it, if anything does.
+    pub fn sender(&self) -> &[u8] {
+        match self {
+            Operation::Receive { from, .. } | Operation::Turn(Some((from, _))) => from,
+            _ => &[],
+        }
+    }
+}
+
 /// As a failure prints it.
 impl Display for Operation {
     fn fmt(&self, f: &mut Formatter<'_>) -> Result {

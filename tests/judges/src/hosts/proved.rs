@@ -1,7 +1,11 @@
 //! The proved host: the functions of crate `boundary` over memory that is lent.
-use super::lent::{Lent, Slice, ALL, RECEIVING, RESENDING, SENDS, WORDS};
-use crate::library::{numbers, Call, Column, Library};
-use crate::models::host::{Address, Limits, Outcome, Packet, Step};
+use super::image::{Kept, Shape};
+use super::lent::{Lent, Slice, ALL, RECEIVING, RESENDING, WORDY};
+use super::operation::Operation;
+use super::seen::Seen;
+use super::sends::Outlets;
+use crate::library::{Call, Column, Library, Memory};
+use crate::models::host::{Address, Limits, Packet};
 
 /// Answers of the boundary that are no outcome of a step.
 pub const STARTED: u64 = 0;
@@ -46,36 +50,14 @@ pub struct Proved {
 /// The answer of a call, and what it hands out.
 pub type Answer = (u64, Vec<Packet>);
 
-/// The outcome that a number of the boundary names.
-pub fn outcome(answer: u64) -> Result<Outcome, String> {
-    Ok(match answer {
-        10 => Outcome::Full,
-        11 => Outcome::Invalid,
-        12 => Outcome::Elsewhere,
-        13 => Outcome::Taken,
-        14 => Outcome::Unreceived,
-        15 => Outcome::Again,
-        16 => Outcome::Future,
-        17 => Outcome::Arrived,
-        18 => Outcome::Stale,
-        20 => Outcome::Idle,
-        21 => Outcome::Stuck,
-        22 => Outcome::Replied,
-        23 => Outcome::Redirected,
-        24 => Outcome::Dropped,
-        25 => Outcome::Unnumbered,
-        26 => Outcome::Accepted,
-        27 => Outcome::Handed,
-        30 => Outcome::Resent,
-        31 => Outcome::Waits,
-        other => return Err(format!("the answer {other}, which names no outcome")),
-    })
-}
-
 impl Proved {
     /// Memory with exactly these limits, in which no host is started yet.
     pub fn new(limits: Limits) -> Proved {
-        let mut library = Library::start();
+        Proved::new_in(Library::start(), limits)
+    }
+
+    /// The same in the memory of that program.
+    pub fn new_in(mut library: Library, limits: Limits) -> Proved {
         Proved {
             lent: Lent::new(&mut library, limits),
             limits,
@@ -129,30 +111,29 @@ impl Proved {
     }
 
     pub fn receive(&mut self, from: &[u8], datagram: &[u8]) -> Answer {
-        let call = self.call("receive", &RECEIVING);
-        let call = self.arrival(call, from, datagram).lend(self.ack);
-        self.step(call, from)
+        self.answered(&Operation::Receive {
+            from: from.to_vec(),
+            datagram: datagram.to_vec(),
+        })
     }
 
     pub fn process(&mut self) -> Answer {
-        let call = self.call("process", &ALL);
-        self.step(call, &[])
+        self.answered(&Operation::Process)
     }
 
     /// How many places were written down, and the datagrams in them.
     pub fn retransmit(&mut self) -> Answer {
-        let call = self.call("retransmit", &RESENDING).lend(self.out);
-        let (answer, after) = self.called(call);
-        match answer {
-            NO_ROOM => (answer, Vec::new()),
-            many => (many, self.packets(&after, &after.out[..many as usize])),
-        }
+        self.answered(&Operation::Retransmit)
+    }
+
+    pub fn turn(&mut self, arrived: Option<(&[u8], &[u8])>) -> Answer {
+        let arrived = arrived.map(|(from, datagram)| (from.to_vec(), datagram.to_vec()));
+        self.answered(&Operation::Turn(arrived))
     }
 
     /// Does memory keep a host?
     pub fn audit(&mut self) -> u64 {
-        let call = self.call("audit", &ALL);
-        self.library.call(call)
+        self.library.call(self.audit_call())
     }
 
     /// All that is lent, to see what changes nothing.
@@ -162,16 +143,40 @@ impl Proved {
         self.library.read(&[&slices[..], &beside].concat())
     }
 
-    /// Where nothing has arrived, what arrived last is lent once more, and not to be looked at.
-    pub fn turn(&mut self, arrived: Option<(&[u8], &[u8])>) -> Answer {
-        let call = self.call("turn", &ALL);
-        let call = call.number(u64::from(arrived.is_some()));
-        let call = match arrived {
-            Some((from, datagram)) => self.arrival(call, from, datagram),
-            None => self.last_arrival(call),
-        };
-        let call = call.lend(self.ack).lend(self.out);
-        self.step(call, arrived.unwrap_or_default().0)
+    /// The call that an operation is; what arrives with it is written. Where nothing has arrived on a turn, what
+    /// arrived last is lent once more, and not to be looked at.
+    pub fn call_of(&mut self, operation: &Operation) -> Call {
+        match operation {
+            Operation::Receive { from, datagram } => {
+                let call = self.call("receive", &RECEIVING);
+                self.arrival(call, from, datagram).lend(self.ack)
+            }
+            Operation::Process => self.call("process", &ALL),
+            Operation::Retransmit => self.call("retransmit", &RESENDING).lend(self.out),
+            Operation::Turn(arrived) => {
+                let call = self.call("turn", &ALL);
+                let call = call.number(u64::from(arrived.is_some()));
+                let call = match arrived {
+                    Some((from, datagram)) => self.arrival(call, from, datagram),
+                    None => self.last_arrival(call),
+                };
+                call.lend(self.ack).lend(self.out)
+            }
+            other => panic!("{other:?} is no call"),
+        }
+    }
+
+    pub fn audit_call(&self) -> Call {
+        self.call("audit", &ALL)
+    }
+
+    pub fn outlets(&self) -> Outlets {
+        Outlets {
+            lent: self.lent,
+            limits: self.limits,
+            ack: self.ack,
+            out: self.out,
+        }
     }
 
     /// The call with a datagram and its sender.
@@ -188,94 +193,50 @@ impl Proved {
     }
 
     /// Calls, and reads the datagrams that the answer hands out.
-    fn step(&mut self, call: Call, from: &[u8]) -> Answer {
-        let (answer, after) = self.called(call);
+    pub fn answered(&mut self, operation: &Operation) -> Answer {
+        let shape = Shape::of(self.outlets().columns().to_vec());
+        let call = self.call_of(operation);
+        self.library.ask_call(call);
+        self.library.ask_for(shape.columns());
+        self.library.flush();
+        let answer = self.library.answer();
+        let after = Kept::receive(shape, &mut self.library);
+        self.handed(operation, answer, &after)
+    }
+
+    /// The same; and what the audit then answers, and what can be seen. The host's words are read in the exchange in
+    /// which it is called and audited, since each exchange takes longer than what is asked in it.
+    pub fn answered_and_seen(
+        &mut self,
+        operation: &Operation,
+    ) -> (Answer, u64, Result<Seen, String>) {
+        let words = WORDY.map(|slice| self.lent[slice]);
+        let shape = Shape::of([&words[..], &[self.out, self.ack]].concat());
+        let call = self.call_of(operation);
+        self.library.ask_call(call);
+        self.library.ask_call(self.audit_call());
+        self.library.ask_for(shape.columns());
+        self.library.flush();
+        let [answer, audit] = [(); 2].map(|()| self.library.answer());
+        let after = Kept::receive(shape, &mut self.library);
+        let handed = self.handed(operation, answer, &after);
+        let seen = Seen::of_memory(&mut after.near(&mut self.library), &self.lent);
+        (handed, audit, seen)
+    }
+
+    /// The answer, and what it hands out.
+    fn handed(&mut self, operation: &Operation, answer: u64, after: &Kept) -> Answer {
         // So that an Ack that is not written next time shows. A refusal must not have written one.
         if answer != UNFIT {
             self.library.fill(self.ack, 0);
         }
-        let sends = match answer {
-            13 | 15 => vec![Packet {
-                to: from.to_vec(),
-                bytes: after.ack.clone(),
-            }],
-            22 | 23 | 27 => self.packets(&after, &[after.sends]),
-            30 => self.packets(&after, &after.out[..after.sends as usize]),
-            _ => Vec::new(),
+        let outlets = self.outlets();
+        let mut memory = after.near(&mut self.library);
+        let sends = match operation {
+            Operation::Retransmit if answer == NO_ROOM => Vec::new(),
+            Operation::Retransmit => outlets.resends(&mut memory, answer),
+            other => outlets.sends(&mut memory, answer, other.sender()),
         };
         (answer, sends)
     }
-
-    fn called(&mut self, call: Call) -> (u64, After) {
-        let lent = &self.lent;
-        let columns = [
-            lent[Slice::Numbers],
-            lent[Slice::Places],
-            lent[Slice::NameLens],
-            self.out,
-            lent[Slice::Names],
-            self.ack,
-        ];
-        let (answer, mut read) = self.library.call_and_read(call, &columns);
-        let [ack, names] = [(); 2].map(|()| read.pop().expect("bytes for each column"));
-        let words: Vec<Vec<u64>> = read.iter().map(|bytes| numbers(bytes)).collect();
-        let [after, places, name_lens, out] = words.try_into().expect("four columns of numbers");
-        let after = After {
-            sends: after.get(SENDS).copied().unwrap_or_default(),
-            places,
-            name_lens,
-            out,
-            names,
-            ack,
-        };
-        (answer, after)
-    }
-
-    /// The datagrams in these places, and whom they are for.
-    fn packets(&mut self, after: &After, places: &[u64]) -> Vec<Packet> {
-        let mail = self.lent[Slice::Mail];
-        let part = |p: &u64| {
-            let len = after.places[*p as usize * WORDS + 2];
-            mail.part(*p as usize * self.limits.size, len as usize)
-        };
-        let parts: Vec<Column> = places.iter().map(part).collect();
-        let bytes = self.library.read(&parts).into_iter();
-        let to = |p: &u64| after.name(after.places[*p as usize * WORDS] - 1, self.limits.address);
-        let packet = |(to, bytes)| Packet { to, bytes };
-        places.iter().map(to).zip(bytes).map(packet).collect()
-    }
-}
-
-/// What stands in memory after a call, as far as it says what is handed out.
-struct After {
-    sends: u64,
-    places: Vec<u64>,
-    name_lens: Vec<u64>,
-    out: Vec<u64>,
-    names: Vec<u8>,
-    ack: Vec<u8>,
-}
-
-impl After {
-    /// The address of peer i.
-    fn name(&self, i: u64, width: usize) -> Address {
-        let (at, len) = (i as usize * width, self.name_lens[i as usize] as usize);
-        self.names[at..at + len].to_vec()
-    }
-}
-
-/// A step by the model's names. Sending again answers how many places it wrote down.
-pub fn resent((answer, sends): Answer) -> Result<Step, String> {
-    match answer {
-        NO_ROOM => Err("no room for the places".to_string()),
-        _ => Ok(Step {
-            outcome: Outcome::Resent,
-            sends,
-        }),
-    }
-}
-
-pub fn step((answer, sends): Answer) -> Result<Step, String> {
-    let outcome = outcome(answer)?;
-    Ok(Step { outcome, sends })
 }

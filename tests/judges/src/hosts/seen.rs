@@ -1,7 +1,7 @@
 //! What can be seen of a host, read from memory or from the model, and where two differ.
 use super::lent::{Lent, LENGTH, SENDER, TURNS, WORDS};
 use super::words::Words;
-use crate::library::Library;
+use crate::library::Memory;
 use crate::messages::hex;
 use crate::models::host::{Address, Host, Peer};
 
@@ -78,10 +78,10 @@ impl Seen {
     }
 
     /// Reads memory that keeps a host. An error is memory that keeps none.
-    pub fn of_memory(library: &mut Library, lent: &Lent) -> Result<Seen, String> {
-        let words = Words::read(library, lent);
+    pub fn of_memory(memory: &mut impl Memory, lent: &Lent) -> Result<Seen, String> {
+        let words = Words::read(memory, lent);
         let parts = words.parts(lent)?;
-        let mut bytes = library.read(&parts).into_iter();
+        let mut bytes = memory.read(&parts).into_iter();
         let mut next = || bytes.next().expect("bytes for each part");
         let records = words.keys.iter().map(|key| (*key, next())).collect();
         let mut seats: Vec<SeenPeer> = (0..words.peers()).map(|i| words.peer(i)).collect();

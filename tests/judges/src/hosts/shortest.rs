@@ -5,10 +5,11 @@ use super::both::Both;
 use super::operation::Operation;
 use crate::models::host::{Address, Host};
 use crate::models::messages::{read, Datagram};
+use std::fmt::Display;
 
 /// So many operations are tried at most, long datagrams counting as several; after that the script is as short as it
 /// has become.
-const TRIED: usize = 200_000;
+pub const TRIED: usize = 200_000;
 
 /// So many operations are printed at most.
 const PRINTED: usize = 60;
@@ -19,7 +20,7 @@ const BYTES: usize = 256;
 /// An operation of the script. The number of a datagram is kept as how far it lies ahead of what the host knows of the
 /// sender, so that it keeps its sense when messages before it are left out.
 #[derive(Clone)]
-struct Line {
+pub struct Line {
     operation: Operation,
     ahead: u64,
 }
@@ -38,45 +39,82 @@ pub fn shortest(both: &mut Both, journal: Vec<Operation>, difference: String) ->
     let lines = lines(both.model.clone(), &journal);
     let mut shortening = Shortening { both, tried: 0 };
     let (script, difference) = shortening.shorten(lines, (journal, difference));
+    format!("{}\n{difference}", text(&script))
+}
+
+/// A script as text; of a long one the end.
+pub fn text(script: &[impl Display]) -> String {
     let before = script.len().saturating_sub(PRINTED);
     let lines: Vec<String> = script.iter().map(|it| format!("  {it}")).collect();
-    let lines = lines[before..].join("\n");
-    format!("{before} operations, then\n{lines}\n{difference}")
+    format!("{before} operations, then\n{}", lines[before..].join("\n"))
 }
 
 /// The operations as lines; the host is a new one.
 fn lines(mut host: Host, journal: &[Operation]) -> Vec<Line> {
     let line = |operation: &Operation| {
-        let ahead = match arrival(operation) {
-            Some((from, datagram)) => number(datagram).wrapping_sub(known(&host, from, datagram)),
-            None => 0,
-        };
+        let line = Line::of(&host, operation);
         Both::play_model(&mut host, operation);
-        let operation = operation.clone();
-        Line { operation, ahead }
+        line
     };
     journal.iter().map(line).collect()
 }
 
+/// The lines that are left when as many as can be are left out, many at once and then fewer, while it still fails.
+/// `fails` says after how many lines it does.
+pub fn shortened<L: Clone>(lines: Vec<L>, mut fails: impl FnMut(&[L]) -> Option<usize>) -> Vec<L> {
+    let mut lines = lines;
+    let mut many = lines.len() / 2;
+    while 0 < many {
+        let mut at = 0;
+        while at < lines.len() {
+            let end = (at + many).min(lines.len());
+            let shorter = [&lines[..at], &lines[end..]].concat();
+            match fails(&shorter) {
+                Some(len) => lines = shorter[..len].to_vec(),
+                None => at = end,
+            }
+        }
+        many /= 2;
+    }
+    lines
+}
+
+impl Line {
+    /// The operation at a host that stands so.
+    pub fn of(host: &Host, operation: &Operation) -> Line {
+        let ahead = match arrival(operation) {
+            Some((from, datagram)) => number(datagram).wrapping_sub(known(host, from, datagram)),
+            None => 0,
+        };
+        let operation = operation.clone();
+        Line { operation, ahead }
+    }
+
+    /// The operation, with the number that lies as far ahead as it did.
+    pub fn at(&self, host: &Host) -> Operation {
+        let mut operation = self.operation.clone();
+        if let Some((from, datagram)) = arrival(&self.operation) {
+            let number = known(host, from, datagram).wrapping_add(self.ahead);
+            if let Operation::Receive { datagram, .. } | Operation::Turn(Some((_, datagram))) =
+                &mut operation
+            {
+                datagram[1..9].copy_from_slice(&number.to_le_bytes());
+            }
+        }
+        operation
+    }
+}
+
 impl Shortening<'_> {
     fn shorten(&mut self, lines: Vec<Line>, shown: Shown) -> Shown {
-        let (mut lines, mut shown) = (lines, shown);
-        let mut many = lines.len() / 2;
-        while 0 < many {
-            let mut at = 0;
-            while at < lines.len() && self.tried < TRIED {
-                let end = (at + many).min(lines.len());
-                let shorter = [&lines[..at], &lines[end..]].concat();
-                match self.difference(&shorter) {
-                    Some(difference) => {
-                        lines = shorter[..difference.0.len()].to_vec();
-                        shown = difference;
-                    }
-                    None => at = end,
-                }
+        let mut shown = shown;
+        shortened(lines, |lines| {
+            if TRIED <= self.tried {
+                return None;
             }
-            many /= 2;
-        }
+            shown = self.difference(lines)?;
+            Some(shown.0.len())
+        });
         shown
     }
 
@@ -85,7 +123,7 @@ impl Shortening<'_> {
         self.both.restart();
         let mut played = Vec::new();
         for line in lines {
-            let operation = renumbered(&self.both.model, line);
+            let operation = line.at(&self.both.model);
             self.tried += cost(&operation);
             if senseless(&self.both.model, &operation) {
                 return None;
@@ -121,20 +159,6 @@ fn known(host: &Host, from: &[u8], datagram: &[u8]) -> u64 {
         Some(Datagram::Ack(_)) => peer.acknowledged,
         _ => peer.received,
     })
-}
-
-/// The line's operation, with the number that lies as far ahead as it did.
-fn renumbered(host: &Host, line: &Line) -> Operation {
-    let mut operation = line.operation.clone();
-    if let Some((from, datagram)) = arrival(&line.operation) {
-        let number = known(host, from, datagram).wrapping_add(line.ahead);
-        if let Operation::Receive { datagram, .. } | Operation::Turn(Some((_, datagram))) =
-            &mut operation
-        {
-            datagram[1..9].copy_from_slice(&number.to_le_bytes());
-        }
-    }
-    operation
 }
 
 /// A change from outside of an address that has no place, or for which something waits, since what came before is left

@@ -1,7 +1,7 @@
 //! A host's memory, read as far as it is in use.
-use super::lent::{Lent, Slice, BOUNDS, ENTRIES, LENGTH, PEERS, SIZE, VALUE, WIDTH, WORDS};
+use super::lent::{Lent, Slice, BOUNDS, ENTRIES, LENGTH, PEERS, SIZE, VALUE, WIDTH, WORDS, WORDY};
 use super::seen::SeenPeer;
-use crate::library::{numbers, Column, Library};
+use crate::library::{numbers, Column, Memory};
 
 /// All of it but the values, the mail and the room, which `parts` finds.
 pub struct Words {
@@ -18,20 +18,8 @@ pub struct Words {
 }
 
 impl Words {
-    pub fn read(library: &mut Library, lent: &Lent) -> Words {
-        let slices = [
-            Slice::Numbers,
-            Slice::Lows,
-            Slice::Owners,
-            Slice::Keys,
-            Slice::Slots,
-            Slice::Lens,
-            Slice::NameLens,
-            Slice::Counts,
-            Slice::Places,
-            Slice::Names,
-        ];
-        let mut read = library.read(&slices.map(|slice| lent[slice])).into_iter();
+    pub fn read(memory: &mut impl Memory, lent: &Lent) -> Words {
+        let mut read = memory.read(&WORDY.map(|slice| lent[slice])).into_iter();
         let mut next = || read.next().expect("bytes for each slice");
         let words = numbers(&next());
         let mut first = |many: usize| {

@@ -1,23 +1,26 @@
 //! Hosts and clients, and a network between them that loses, repeats, delays and reorders. Everything is drawn by the
 //! pseudo-random rule; each host is the proved one and the model in lock step.
 mod client;
+mod disturbed;
 mod drawn;
+mod ledger;
+pub mod limits;
+mod quiet;
+mod replay;
 
 use super::both::{Both, Look};
 use super::operation::Operation;
 use super::owned;
 use crate::draw::Draw;
-use crate::messages;
-use crate::models::host::{Address, Host, Limits, Outcome, Packet, Step};
-use crate::models::messages::{written, Body};
+use crate::library::Library;
+use crate::models::host::{Address, Host, Limits, Outcome, Packet};
 use client::Client;
+use ledger::Ledger;
+use replay::Act;
 use std::collections::BTreeMap;
 
 /// So many datagrams fly at most; of more some get lost.
 const FLYING: usize = 40;
-
-/// After so many rounds in which nothing gets lost no more is expected to happen.
-const ROUNDS: usize = 60;
 
 const HOSTS: [&[u8]; 5] = [b"a:1", b"b:2", b"c:3", b"d:4", b"e:5"];
 
@@ -40,6 +43,10 @@ pub struct Plan {
     pub clients: usize,
     pub limits: Limits,
     pub senders: Senders,
+    /// Of a hundred events so many more are damaged or misplaced datagrams.
+    pub damage: usize,
+    /// Memory is audited and compared after each so manyth event.
+    pub look: usize,
 }
 
 #[derive(Clone)]
@@ -55,26 +62,53 @@ pub struct World {
     hosts: Vec<Both>,
     clients: BTreeMap<Address, Client>,
     flying: Vec<Flying>,
-    /// What each key should hold: what the last Set that was carried out has put there.
-    ledger: BTreeMap<u64, Vec<u8>>,
+    ledger: Ledger,
     /// How often each outcome came about.
     pub outcomes: BTreeMap<Outcome, usize>,
+    /// How many datagrams arrived damaged.
+    pub damaged: usize,
+    /// After how many events memory was audited and compared.
+    pub looked: usize,
+    journal: Vec<Act>,
 }
 
 impl World {
     pub fn new(plan: Plan) -> World {
+        World::new_in(&mut Vec::new(), plan)
+    }
+
+    /// A world whose hosts are in these programs, as far as there are enough of them.
+    pub fn new_in(programs: &mut Vec<Library>, plan: Plan) -> World {
         let addresses = &HOSTS[..plan.hosts];
-        let start = |me: &&[u8]| Both::start(plan.limits, addresses, me, Look::EachTime);
+        let look = match plan.look {
+            1 => Look::EachTime,
+            _ => Look::WhenAsked,
+        };
+        let mut start = |me: &&[u8]| {
+            let program = programs.pop().unwrap_or_else(Library::start);
+            let mut both = Both::start_in(program, plan.limits, addresses, me, look);
+            both.name = format!("{plan:?}");
+            both
+        };
         let clients = CLIENTS[..plan.clients].iter();
         World {
             plan,
             draw: Draw::new(plan.seed),
-            hosts: addresses.iter().map(start).collect(),
+            hosts: addresses.iter().map(&mut start).collect(),
             clients: clients.map(|c| (c.to_vec(), Client::default())).collect(),
             flying: Vec::new(),
-            ledger: BTreeMap::new(),
+            ledger: Ledger::default(),
             outcomes: BTreeMap::new(),
+            damaged: 0,
+            looked: 0,
+            journal: Vec::new(),
         }
+    }
+
+    /// The programs of its hosts, for another world.
+    pub fn programs(self) -> impl Iterator<Item = Library> {
+        let hosts = self.hosts.into_iter();
+        hosts.map(|both| both.proved.library.emptied())
     }
 
     pub fn models(&self) -> Vec<&Host> {
@@ -84,9 +118,6 @@ impl World {
     /// So many steps of one kind or another.
     pub fn run(&mut self, steps: usize) {
         for number in 0..steps {
-            for both in &mut self.hosts {
-                both.name = format!("{:?}, step {number}", self.plan);
-            }
             self.step();
             if number % 8 == 0 {
                 self.check_owners();
@@ -101,13 +132,27 @@ impl World {
     pub fn check_owners(&self) {
         if self.plan.senders == Senders::Known {
             if let Err(fault) = owned::check(&self.models()) {
-                panic!("{}: {fault}", self.hosts[0].name);
+                self.fail(fault);
             }
         }
     }
 
+    /// Ends the test: the hosts do as their models do, but together something is wrong.
+    fn fail(&self, fault: String) -> ! {
+        let (plan, events) = (&self.plan, self.journal.len());
+        let new = self.models().into_iter().map(|model| {
+            let host = Host::start(model.limits, &model.hosts, &model.me);
+            host.expect("the model starts")
+        });
+        let script = replay::shortest(&new.collect::<Vec<Host>>(), &self.journal, fault);
+        panic!("{plan:?}, event {events}: {script}");
+    }
+
     fn step(&mut self) {
         let host = self.draw.below(self.hosts.len());
+        if self.draw.below(100) < self.plan.damage {
+            return self.disturb(host);
+        }
         match self.draw.below(100) {
             0..=58 if !self.flying.is_empty() => self.deliver(),
             59..=74 => self.process(host),
@@ -173,29 +218,22 @@ impl World {
     fn act(&mut self, host: usize, operation: Operation) {
         let both = &mut self.hosts[host];
         let before = both.model.room.as_ref().map(|letter| letter.body.clone());
-        let step = both.play(operation);
+        let step = both.play(operation.clone());
+        self.journal.push((host, operation));
+        if self.journal.len().is_multiple_of(self.plan.look) {
+            self.looked += 1;
+            if self.plan.look != 1 {
+                both.check();
+            }
+        }
         let me = both.model.me.clone();
         *self.outcomes.entry(step.outcome).or_default() += 1;
-        self.enter(before, &step);
+        if self.plan.senders == Senders::Known {
+            let entered = self.ledger.enter(before, &step);
+            entered.unwrap_or_else(|fault| self.fail(fault));
+        }
         for Packet { to, bytes } in step.sends {
             self.fly(&me, &to, &bytes);
-        }
-    }
-
-    /// A request that was carried out is entered in the ledger, or its answer is held to it.
-    fn enter(&mut self, request: Option<Body>, step: &Step) {
-        if step.outcome != Outcome::Replied || self.plan.senders != Senders::Known {
-            return;
-        }
-        match request.expect("what is answered was in the room") {
-            Body::Set(key, Some(value)) => drop(self.ledger.insert(key, value)),
-            Body::Set(key, None) => drop(self.ledger.remove(&key)),
-            _ => match owned::body(&step.sends[0].bytes) {
-                Some(Body::Reply(key, value)) => {
-                    assert_eq!(value.as_ref(), self.ledger.get(&key), "the value of {key}");
-                }
-                other => panic!("no reply, but {other:?}"),
-            },
         }
     }
 
@@ -213,45 +251,6 @@ impl World {
         self.fly(from, &me, &datagram);
     }
 
-    /// A datagram comes out of nowhere: a good one in a wrong place, a damaged one, or bytes that follow no rule.
-    fn disturb(&mut self, host: usize) {
-        let from = self.disturber();
-        let flying = self.draw.below(self.flying.len());
-        let datagram = match self.flying.get(flying) {
-            Some(flying) if 0 < self.draw.below(4) => flying.datagram.clone(),
-            _ => messages::drawn::bytes(&mut self.draw),
-        };
-        let datagram = match self.draw.below(4) {
-            0 => datagram,
-            1 => self.misplaced(host, &from),
-            _ => messages::drawn::changed(&mut self.draw, &datagram),
-        };
-        self.act(host, Operation::Receive { from, datagram });
-    }
-
-    /// A good message with a number near the one that the host expects next of the sender.
-    fn misplaced(&mut self, host: usize, from: &[u8]) -> Vec<u8> {
-        let model = &self.hosts[host].model;
-        let last = model.peer(from).map_or(0, |peer| peer.received);
-        let number = last.saturating_add(self.draw.below(3) as u64);
-        let to = model.me.clone();
-        let body = match self.plan.senders {
-            Senders::Known => drawn::request(&mut self.draw, &HOSTS[..self.plan.hosts]),
-            Senders::Forged => drawn::any(&mut self.draw, &HOSTS[..self.plan.hosts]),
-        };
-        written(&messages::samples::message(number, &to, body))
-    }
-
-    fn disturber(&mut self) -> Address {
-        let strangers: [&[u8]; 3] = [b"x:1", b"x:22", b"x:1234567"];
-        let others = match self.plan.senders {
-            Senders::Known => &[],
-            Senders::Forged => &HOSTS[..self.plan.hosts],
-        };
-        let all = [&CLIENTS[..self.plan.clients], &strangers, others].concat();
-        all[self.draw.below(all.len())].to_vec()
-    }
-
     /// A turn of the host. Only on its turn for receiving it looks at what has arrived.
     fn turn(&mut self, host: usize) {
         let model = &self.hosts[host].model;
@@ -263,49 +262,5 @@ impl World {
         });
         let arrived = arrived.map(|it| (it.from, it.datagram));
         self.act(host, Operation::Turn(arrived));
-    }
-
-    /// Nothing gets lost any more, and nobody asks for anything new: whatever waits is sent again and arrives, until
-    /// nothing waits. Answers how many messages wait at last.
-    pub fn settle(&mut self) -> usize {
-        for _ in 0..ROUNDS {
-            for host in 0..self.hosts.len() {
-                self.act(host, Operation::Process);
-                self.act(host, Operation::Retransmit);
-                self.land();
-            }
-            if self.waiting() == 0 {
-                break;
-            }
-        }
-        self.check_owners();
-        self.waiting()
-    }
-
-    /// All that flies arrives in order, at hosts whose room is free.
-    fn land(&mut self) {
-        while !self.flying.is_empty() {
-            let Flying { from, to, datagram } = self.flying.remove(0);
-            self.arrive(&from, &to, datagram);
-            if let Some(host) = self.hosts.iter().position(|both| both.model.me == to) {
-                self.act(host, Operation::Process);
-            }
-        }
-    }
-
-    fn waiting(&self) -> usize {
-        let models = self.hosts.iter().map(|both| &both.model);
-        let peers = models.flat_map(|model| &model.peers);
-        peers.map(|peer| peer.waiting.len()).sum()
-    }
-
-    /// What all hosts together hold is what the ledger says.
-    pub fn check_ledger(&self) {
-        let models = self.hosts.iter().map(|both| &both.model);
-        let records = models.flat_map(|model| model.records.clone());
-        let held: Vec<(u64, Vec<u8>)> = records.collect();
-        let once: BTreeMap<u64, Vec<u8>> = held.iter().cloned().collect();
-        assert_eq!(held.len(), once.len(), "a key has a record at two hosts");
-        assert_eq!(once, self.ledger, "the records of {:?}", self.plan);
     }
 }

@@ -7,6 +7,7 @@ mod process;
 mod room;
 
 pub use super::owners::Address;
+pub use process::TRANSFERS;
 pub use room::Limits;
 
 use super::messages::{read, written, Body, Datagram, MOST};
@@ -59,7 +60,7 @@ pub struct Step {
 
 /// What is known of an address that has a place: the number of the last message taken, how many it has acknowledged,
 /// and the messages after that, in order.
-#[derive(Clone, Debug)]
+#[derive(Clone, Debug, PartialEq, Eq)]
 pub struct Peer {
     pub address: Address,
     pub received: u64,
@@ -68,14 +69,14 @@ pub struct Peer {
 }
 
 /// A message that is received and not yet processed, and the datagram that it came as.
-#[derive(Clone, Debug)]
+#[derive(Clone, Debug, PartialEq, Eq)]
 pub struct Letter {
     pub from: Address,
     pub body: Body,
     pub datagram: Vec<u8>,
 }
 
-#[derive(Clone, Debug)]
+#[derive(Clone, Debug, PartialEq, Eq)]
 pub struct Host {
     pub limits: Limits,
     pub me: Address,

@@ -15,7 +15,7 @@ pub enum Datagram {
 }
 
 /// A bound is a key, or none for end.
-#[derive(Clone, Debug, PartialEq, Eq)]
+#[derive(Clone, Debug, PartialEq, Eq, Hash)]
 pub enum Body {
     Get(u64),
     Set(u64, Option<Vec<u8>>),

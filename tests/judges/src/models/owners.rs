@@ -5,7 +5,7 @@ use std::collections::BTreeMap;
 
 pub type Address = Vec<u8>;
 
-#[derive(Clone, Debug, PartialEq, Eq)]
+#[derive(Clone, Debug, PartialEq, Eq, Hash)]
 pub struct Owners {
     lows: BTreeMap<u64, Address>,
 }

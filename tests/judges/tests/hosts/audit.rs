@@ -6,6 +6,7 @@ use judges::hosts::lent::{
     ALL, BOUNDS, ENTRIES, LENGTH, PEERS, SENDER, SENDS, SIZE, TRANSFERS, TURNS, WIDTH, WORDS,
 };
 use judges::hosts::proved::{Proved, KEPT, NOT_KEPT, UNFIT};
+use judges::library::Memory;
 use judges::models::host::Outcome;
 use judges::models::messages::Body;
 

@@ -1,8 +1,9 @@
 //! The proved host beside the model of document 01, step by step: the document's situations one by one (`rows`,
-//! `receiving`, `counting`, `limits`, `sizes`, `starting`), worlds by the pseudo-random rule (`worlds`), one large run
-//! (`large`), and damaged memory (`audit`).
+//! `receiving`, `counting`, `limits`, `sizes`, `starting`), worlds by the pseudo-random rule (`worlds`), every script
+//! of a few events (`every`), one large run (`large`), and damaged memory (`audit`).
 mod audit;
 mod counting;
+mod every;
 mod large;
 mod limits;
 mod receiving;

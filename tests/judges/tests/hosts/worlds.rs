@@ -3,13 +3,15 @@
 use crate::{A, B, FEW};
 use judges::bound::Bound;
 use judges::hosts::owned;
+use judges::hosts::soak::Soak;
+use judges::hosts::world::limits::{FEW_BOUNDS, FEW_ENTRIES, FEW_WAITING, ROOMY, TIGHT};
 use judges::hosts::world::{Plan, Senders, World};
 use judges::models::host::{Host, Limits, Outcome};
 use judges::models::messages::Body;
 use std::collections::BTreeMap;
 
 /// Everything that can happen in a world. That numbers or transfers run out cannot.
-const HAPPENS: [Outcome; 17] = [
+pub const HAPPENS: [Outcome; 17] = [
     Outcome::Full,
     Outcome::Invalid,
     Outcome::Elsewhere,
@@ -29,24 +31,6 @@ const HAPPENS: [Outcome; 17] = [
     Outcome::Waits,
 ];
 
-/// Room for whatever a world of few keys can bring.
-const ROOMY: Limits = Limits {
-    entries: 12,
-    bounds: 24,
-    peers: 12,
-    waiting: 8,
-    ..FEW
-};
-
-/// So little that every limit is reached again and again.
-const TIGHT: Limits = Limits {
-    entries: 4,
-    bounds: 4,
-    peers: 7,
-    waiting: 3,
-    ..FEW
-};
-
 /// All of these happened.
 fn happened(outcomes: &BTreeMap<Outcome, usize>, wanted: &[Outcome]) {
     for outcome in wanted {
@@ -65,6 +49,8 @@ fn plan(seed: u64, hosts: usize, limits: Limits, senders: Senders) -> Plan {
         clients: 1 + seed as usize % 4,
         limits,
         senders,
+        damage: 0,
+        look: 1,
     }
 }
 
@@ -115,23 +101,9 @@ fn together(plans: &[Plan], steps: usize) -> BTreeMap<Outcome, usize> {
 fn worlds_with_little_room() {
     let little = |seed, hosts, limits| plan(seed, hosts, limits, Senders::Known);
     let plans = [
-        little(
-            11,
-            3,
-            Limits {
-                entries: 3,
-                ..ROOMY
-            },
-        ),
-        little(12, 3, Limits { bounds: 4, ..ROOMY }),
-        little(
-            13,
-            4,
-            Limits {
-                waiting: 2,
-                ..ROOMY
-            },
-        ),
+        little(11, 3, FEW_ENTRIES),
+        little(12, 3, FEW_BOUNDS),
+        little(13, 4, FEW_WAITING),
         little(14, 2, Limits { peers: 4, ..ROOMY }),
         little(15, 3, TIGHT),
     ];
@@ -148,6 +120,16 @@ fn worlds_with_forged_senders() {
         forged(23, 3, Limits { bounds: 5, ..ROOMY }),
     ];
     happened(&together(&plans, 4_000), &HAPPENS);
+}
+
+/// The first worlds that examples/soak.rs runs, in which much is damaged.
+#[test]
+fn worlds_of_every_kind() {
+    let mut soak = Soak::default();
+    soak.run(9_000, 1, |_, _| {});
+    happened(&soak.outcomes, &HAPPENS);
+    let (damaged, events) = (soak.damaged, soak.events);
+    assert!(events < 20 * damaged, "{damaged} of {events} are damaged");
 }
 
 /// That a key has two owners or none is noticed, also if a transfer is on its way.

@@ -8,7 +8,7 @@ use std::collections::BTreeSet;
 
 /// So many entries, bounds, peers and waiting messages; bytes of an address, of a datagram that is sent, and of one
 /// that can be received.
-#[derive(Clone, Copy, Debug)]
+#[derive(Clone, Copy, Debug, PartialEq, Eq)]
 pub struct Limits {
     pub entries: usize,
     pub bounds: usize,
