@@ -1,5 +1,6 @@
 //! Finds the archive of the proved host, and has it made where it is missing. On x86-64 the crate links it. It holds
-//! x86-64 code only, so for other machines this builds a program around it that the crate starts and asks.
+//! x86-64 code only, so for other machines this builds a program around it that the crate starts and asks. Another
+//! archive, which a variable names, may hold code for another machine.
 #[path = "build/kit.rs"]
 mod kit;
 
@@ -22,6 +23,7 @@ fn main() {
 fn build() -> Result<(), String> {
     println!("cargo:rerun-if-env-changed=RATTLE_HOME");
     println!("cargo:rerun-if-env-changed=TAGSHARDS_BACK_END");
+    println!("cargo:rerun-if-env-changed=TAGSHARDS_ARCHIVE");
     println!("cargo:rerun-if-changed=build/kit.rs");
     let root = PathBuf::from(variable("CARGO_MANIFEST_DIR")?).join("..");
     let archive = archive(&root)?;
@@ -44,26 +46,38 @@ fn is_native() -> Result<bool, String> {
     }
 }
 
-/// The archive of crate `boundary`. Making it proves the crate again, so it is made only where there is none.
+/// The archive of crate `boundary`: the one that the variable names, from the repository's folder on, or else the
+/// shipped one. Making that proves the crate again, so it is made only where there is none.
 fn archive(root: &Path) -> Result<PathBuf, String> {
-    let archive = root.join("target/staticlib/libboundary.a");
+    let named = env::var_os("TAGSHARDS_ARCHIVE");
+    let shipped = Path::new("target/staticlib/libboundary.a");
+    let archive = root.join(named.as_deref().map_or(shipped, Path::new));
     println!("cargo:rerun-if-changed={}", archive.display());
     if archive.exists() {
         return Ok(archive);
     }
+    if named.is_some() {
+        let archive = archive.display();
+        return Err(format!(
+            "TAGSHARDS_ARCHIVE names {archive}, which is missing"
+        ));
+    }
     let mut rt = Command::new("rt");
     let made = run(rt.args(["staticlib", "boundary"]).current_dir(root));
     made.map_err(|error| {
-        let archive = "target/staticlib/libboundary.a";
-        format!("{archive} is missing; 'rt staticlib boundary' makes it, which failed: {error}")
+        let shipped = shipped.display();
+        format!("{shipped} is missing; 'rt staticlib boundary' makes it, which failed: {error}")
     })?;
     Ok(archive)
 }
 
 fn link(archive: &Path) -> Result<(), String> {
     let folder = archive.parent().ok_or("the archive lies in no folder")?;
+    let name = archive.file_stem().and_then(|stem| stem.to_str());
+    let name = name.and_then(|stem| stem.strip_prefix("lib"));
+    let name = name.ok_or("the linker takes only archives that are named lib*.a")?;
     println!("cargo:rustc-link-search=native={}", folder.display());
-    println!("cargo:rustc-link-lib=static=boundary");
+    println!("cargo:rustc-link-lib=static={name}");
     println!("cargo:rustc-cfg=tagshards_native");
     Ok(())
 }
