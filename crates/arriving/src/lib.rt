@@ -1,4 +1,5 @@
 // A turn for receiving (document 01, section 5): the datagram that has arrived, if one has, is received.
+use format::WIDTH;
 use hosts::State;
 use rounds::Ended;
 use rounds::Turned;
@@ -7,7 +8,7 @@ ghost use Prim.Native.Nat.{ℕ};
 ghost use Rattle.hosts.specs.Memory.{memory};
 ghost use Rattle.arriving.specs.Answers.{AfterArrive};
 
-// A turn for receiving. What has arrived, if nothing has, is not looked at.
+// A turn for receiving. If nothing has arrived, the sender and the datagram are not looked at.
 pub fn arrive(
     lows: &[u64],
     owners: &[u64],
@@ -27,6 +28,9 @@ pub fn arrive(
     ensures { λ r. ⌜ ((lens values mail : List ℕ) → AfterArrive (memory (now (lows .entry)) (now (owners .entry)) (now (keys .entry)) (now (slots .entry)) lens values (now («name_lens» .entry)) (now (names .entry)) (now (counts .entry)) (now (places .entry)) mail) k (now (room .entry)) arrived (now (from .entry)) (now (s .entry)) (now (ack .entry)) r
         (memory (now (lows .entry)) (now (owners .entry)) (now (keys .entry)) (now (slots .entry)) lens values (now («name_lens» .exit)) (now (names .exit)) (now (counts .exit)) (now (places .exit)) mail) (now (room .exit)) (now (ack .exit))) ⌝ }
 {
+    if ack.len() < 1 + WIDTH {
+        return rounds::unfit(k);
+    }
     if !arrived {
         return Ended {
             state: rounds::over(k),

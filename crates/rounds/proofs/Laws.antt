@@ -1,7 +1,7 @@
 -- The count of turns goes on, and nothing else changes.
 -- Assumes nothing.
 use mathlib.Core.Path.{_≡_, refl, sym, ap, _∙_, subst}
-use mathlib.Core.Bool.{Bool, true, false}
+use mathlib.Core.Bool.{Bool, true, false, false≢true}
 use mathlib.Core.List.{List, [], _∷_}
 use mathlib.Core.Option.{Option, none, some}
 use Prim.Native.Nat.{ℕ, _+_, _%_, _<_}
@@ -25,7 +25,8 @@ use Rattle.repeating.specs.declared.Repeated.{Repeated}
 use Rattle.repeating.specs.declared.Repeated.the-variants.{Places, NoRoom}
 use Rattle.repeating.specs.Answers.{AfterRepeat}
 use Rattle.rounds.specs.declared.Turned.the-variants.{Resent, Waits}
-use Rattle.rounds.specs.Answers.{Turns, overOf, AfterAgain}
+use Rattle.rounds.specs.declared.Ended.{Ended}
+use Rattle.rounds.specs.Answers.{Turns, counted, overOf, refusal, AfterAgain}
 
 -- ---- the count of turns is in no other clause
 
@@ -92,32 +93,8 @@ sends-over m k Accepted = refl
 sends-over m k (Handed p) = refl
 
 -- the count is taken within a round before it is raised, so that it cannot run over
-pub goes-on : (k : State) → _≡_ {A = State} (record {
-  me = k .me;
-  hosts = k .hosts;
-  peers = k .peers;
-  width = k .width;
-  size = k .size;
-  bounds = k .bounds;
-  entries = k .entries;
-  len = k .len;
-  from = k .from;
-  transfers = k .transfers;
-  turns = (k .turns % round + 1) % round;
-}) (overOf k)
-goes-on k = ap (λ (n : ℕ). record {
-  me = k .me;
-  hosts = k .hosts;
-  peers = k .peers;
-  width = k .width;
-  size = k .size;
-  bounds = k .bounds;
-  entries = k .entries;
-  len = k .len;
-  from = k .from;
-  transfers = k .transfers;
-  turns = n;
-}) (mod-add-mod (k .turns) round 1)
+pub goes-on : (k : State) → counted ((k .turns % round + 1) % round) k ≡ overOf k
+goes-on k = ap (λ (n : ℕ). counted n k) (mod-add-mod (k .turns) round 1)
 
 -- ---- a turn without a step
 
@@ -136,7 +113,8 @@ module _ {counts places : List ℕ} {k : State} {out : List ℕ} where
         let e : eqb (h .turns + 1) round ≡ false = ne-eqb (h .turns + 1) round (λ d. n (ap (λ (t : ℕ). t + 1) (K .core .turns-is) ∙ d)) in
         subst (λ (t : Bool). Turns (memory lows owners keys slots lens values nameLens names counts places mail) (overOf k) room a ack out Waits (ended (resending t h))) (sym e)
         (waited h K out);
-    fit = refl;
+    fit = λ c. refl;
+    refused = λ t. absurd (false≢true t);
   })
 
   pub due : {out′ : List ℕ} {f : State} {n : ℕ} → k .turns + 1 ≡ round → AfterRepeat counts places k out (Places n) out′ → f ≡ overOf k
@@ -151,12 +129,17 @@ module _ {counts places : List ℕ} {k : State} {out : List ℕ} where
           outcome = refl;
           sends = R .is .1 lows owners keys slots lens values nameLens names mail h (K .core);
         });
-    fit = refl;
+    fit = λ c. refl;
+    refused = λ t. absurd (false≢true t);
   })
 
-  -- enough was lent, so there is room
-  pub has-room : {out′ : List ℕ} {f : State} → AfterRepeat counts places k out NoRoom out′ → AfterAgain counts places k out (record { state = f; outcome = Waits; place = 0 }) out′
-  has-room R = record { is = λ lows owners keys slots lens values nameLens names mail room h K c a ack. absurd (omega (arith, c, R .is .1)); fit = refl }
+  -- too little was lent
+  pub no-room : {out′ : List ℕ} {r : Ended} → AfterRepeat counts places k out NoRoom out′ → r ≡ refusal k → AfterAgain counts places k out r out′
+  no-room R q = record {
+    is = λ lows owners keys slots lens values nameLens names mail room h K c a ack. absurd (omega (arith, c, R .is .1));
+    fit = λ c. absurd (omega (arith, c, R .is .1));
+    refused = λ t. (q, R .is .0);
+  }
 
 pub repeat-as : {counts places : List ℕ} {k : State} {out out′ : List ℕ} {r s : Repeated} → r ≡ s → AfterRepeat counts places k out r out′ → AfterRepeat counts places k out s out′
 repeat-as {counts} {places} {k} {out} {out′} e R = subst (λ (t : Repeated). AfterRepeat counts places k out t out′) e R

@@ -29,7 +29,7 @@ pub struct Ended {
     pub place: usize,
 }
 
-// A turn for sending again.
+// A turn for sending again. If too little is lent for the places of all that waits, nothing is done.
 pub fn again(counts: &[u64], places: &[u64], out: &mut [u64], k: State) -> Ended
     ensures { λ r. ⌜ AfterAgain (now (counts .entry)) (now (places .entry)) k (now (out .entry)) r (now (out .exit)) ⌝ }
 {
@@ -47,11 +47,7 @@ pub fn again(counts: &[u64], places: &[u64], out: &mut [u64], k: State) -> Ended
             outcome: Turned::Resent(n),
             place: 0,
         },
-        Repeated::NoRoom => Ended {
-            state: over(k),
-            outcome: Turned::Waits,
-            place: 0,
-        },
+        Repeated::NoRoom => unfit(k),
     }
 }
 

@@ -78,7 +78,7 @@ module _ {m : Memory} {k : State} {room : List ℕ} {arrived : Bool} {a : Addres
             subst (λ (n : ℕ). Turns m (r .state) room a ack out′ (r .outcome) (ended (byKind n true (fitsRoom (length (m .slots)) h (h .room)) h (arriving arrived a s)))) (sym z)
                 (A .is (m .lows) (m .owners) (m .keys) (m .slots) (m .lens) (m .values) (m .nameLens) (m .names) (m .mail) room h K (L .out-fits) a ack),
           );
-      fit = λ l. A .fit;
+      fit = λ l. A .fit (L .out-fits);
       refused = λ n. absurd (n L);
     }
       where

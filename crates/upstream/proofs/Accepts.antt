@@ -12,7 +12,7 @@ use Rattle.upstream.specs.Messages.{Hashtable, getRequest, message, ack,
 use Rattle.upstream.specs.Delivery.{insert, ackOf, truncate, SingleDelivery, ReceiveAck}
 use Rattle.upstream.specs.Hosts.{AppRequest, State, Map, Complete, freed, receives, sent, ProcessRoom, Next, NextGet, receivePacket, processPacket, stutter}
 
--- Receiving may change anything. Among an Ack that says nothing new the host may take another map, another table, another count and another list of
+-- Receiving may change anything. On an Ack that says nothing new the host may take another map, another table, another count and another list of
 -- requests: the line "nothing else changes" compares the new state with itself. (Here `protocol.receive` is a function, and where the host stays as it
 -- was all memory does: `receiving.AfterReceive`. `crates/protocol/must-fail/ack_empties_the_records.edit` is refused)
 pub anything-changes : (pre : State) → pre .received ≡ none → Complete pre → (map : Map) (table : Hashtable) (count : ℕ) (requests : List AppRequest) (a : Address)

@@ -4,7 +4,7 @@ use native.Mathlib.Omega.{arith}
 use borrow.Author.Needs.{needs}
 use Rattle.rounds.proofs.again.Statement.{statement}
 use Rattle.rounds.proofs.again.Tie as tie
-use Rattle.rounds.proofs.Laws.{not-due, due, has-room, repeat-as}
+use Rattle.rounds.proofs.Laws.{not-due, due, no-room, repeat-as}
 
 sub-if1 : tie.Need-sub-if1
 sub-if1 c = search needs
@@ -28,8 +28,8 @@ over-requires-2 c κs = search needs
 enum-told : tie.Need-enum-told
 enum-told c = search needs
 
-over-requires-3 : tie.Need-over-requires-3
-over-requires-3 c κs = search needs
+unfit-requires : tie.Need-unfit-requires
+unfit-requires c κs = search needs
 
 same-length : tie.Need-same-length
 same-length c = search needs
@@ -43,7 +43,7 @@ same-length-2 c = search needs
 
 returns-3 : tie.Need-returns-3
 returns-3 c =
-    has-room (repeat-as (c .before .enum-told .given .1) (c .before .before .before .before .before .retransmit .ensures))
+    no-room (repeat-as (c .before .enum-told .given .1) (c .before .before .before .before .before .retransmit .ensures)) (c .unfit .ensures)
 
 pub again-spec : {M : Type 1} → statement M
 again-spec =
@@ -56,7 +56,7 @@ again-spec =
     enum-known-repeated
     over-requires-2
     enum-told
-    over-requires-3
+    unfit-requires
     same-length
     returns-2
     same-length-2
