@@ -22,7 +22,8 @@ use Rattle.delegation.specs.declared.Changed.the-variants.{Bounds, NoRoom}
 use Rattle.delegation.specs.Map.{updated, room, AfterSet}
 use Rattle.entries.specs.declared.Replaced.{Replaced}
 use Rattle.entries.specs.declared.Replaced.the-variants.{Entries, Full, TooLong, Malformed}
-use Rattle.entries.specs.Answers.{Entered, AfterReplace}
+use Rattle.entered.specs.Entered.{Entered}
+use Rattle.entries.specs.Answers.{AfterReplace}
 use Rattle.protocol.specs.Address.{among}
 use Rattle.protocol.specs.Records.{look, replacing}
 use Rattle.protocol.specs.Owners.{ownerOf, giving}

@@ -10,10 +10,11 @@ use Rattle.protocol.specs.Delivery.{Step}
 use Rattle.protocol.specs.Turn.{ended}
 use Rattle.hosts.specs.declared.State.{State}
 use Rattle.hosts.specs.Memory.{Memory}
-use Rattle.receiving.specs.declared.Received.{Received}
-use Rattle.receiving.specs.declared.Received.the-variants.{Full, Invalid, Elsewhere, Taken, Unreceived, Again, Future, Arrived, Stale, Unfit as TooShort}
-use Rattle.receiving.specs.declared.Arrival.{Arrival}
-use Rattle.receiving.specs.Answers.{ackLength, Receives, AfterReceive}
+use Rattle.incoming.specs.declared.Received.{Received}
+use Rattle.incoming.specs.declared.Received.the-variants.{Full, Invalid, Elsewhere, Taken, Unreceived, Again, Future, Arrived, Stale, Unfit as TooShort}
+use Rattle.incoming.specs.declared.Arrival.{Arrival}
+use Rattle.incoming.specs.Answers.{ackLength, Receives}
+use Rattle.receiving.specs.Answers.{AfterReceive}
 use Rattle.rounds.specs.declared.Turned.the-variants.{Came, Waits}
 use Rattle.rounds.specs.declared.Ended.{Ended}
 use Rattle.rounds.specs.Answers.{unfit, Turns, overOf, refusal}

@@ -12,7 +12,7 @@ use Rattle.protocol.specs.Turn.{arriving as onArrival, ended}
 use Rattle.hosts.specs.declared.State.{State}
 use Rattle.hosts.specs.Memory.{Memory}
 use Rattle.hosts.specs.Keeps.{limitsOf, Keeps}
-use Rattle.receiving.specs.Answers.{ackLength, Tested}
+use Rattle.incoming.specs.Answers.{ackLength, Tested}
 use Rattle.rounds.specs.declared.Ended.{Ended}
 use Rattle.rounds.specs.Answers.{refuses, refusal, Turns}
 

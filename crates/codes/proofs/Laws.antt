@@ -5,8 +5,8 @@ use mathlib.Core.Bool.{false, false≢true}
 use native.Mathlib.Omega.{arith}
 use Rattle.hosts.specs.declared.Processed.{Processed}
 use Rattle.hosts.specs.declared.Processed.the-variants.{Idle, Stuck, Replied, Redirected, Dropped, Unnumbered, Accepted, Handed}
-use Rattle.receiving.specs.declared.Received.{Received}
-use Rattle.receiving.specs.declared.Received.the-variants.{Full, Invalid, Elsewhere, Taken, Unreceived, Again, Future, Arrived, Stale, Unfit as TooShort}
+use Rattle.incoming.specs.declared.Received.{Received}
+use Rattle.incoming.specs.declared.Received.the-variants.{Full, Invalid, Elsewhere, Taken, Unreceived, Again, Future, Arrived, Stale, Unfit as TooShort}
 use Rattle.rounds.specs.declared.Turned.{Turned}
 use Rattle.rounds.specs.declared.Turned.the-variants.{Came, Did, Resent, Waits, Unfit as NotLent}
 use Rattle.rounds.specs.Answers.{unfit as tooShort, refuses}

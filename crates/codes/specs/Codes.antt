@@ -7,8 +7,8 @@ use Rattle.hosts.specs.declared.Processed.{Processed}
 use Rattle.hosts.specs.declared.Processed.the-variants.{Idle, Stuck, Replied, Redirected, Dropped, Unnumbered, Accepted, Handed}
 use Rattle.starting.specs.declared.Started.{Started}
 use Rattle.starting.specs.declared.Started.the-variants.{Now, NoHost, Unfit as NotStarted}
-use Rattle.receiving.specs.declared.Received.{Received}
-use Rattle.receiving.specs.declared.Received.the-variants.{Full, Invalid, Elsewhere, Taken, Unreceived, Again, Future, Arrived, Stale, Unfit as TooShort}
+use Rattle.incoming.specs.declared.Received.{Received}
+use Rattle.incoming.specs.declared.Received.the-variants.{Full, Invalid, Elsewhere, Taken, Unreceived, Again, Future, Arrived, Stale, Unfit as TooShort}
 use Rattle.repeating.specs.declared.Repeated.{Repeated}
 use Rattle.repeating.specs.declared.Repeated.the-variants.{Places, NoRoom}
 use Rattle.rounds.specs.declared.Turned.{Turned}

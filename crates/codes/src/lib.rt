@@ -1,6 +1,6 @@
 // What became of a step, as a number, and the place of the datagram to send.
 use hosts::Processed;
-use receiving::Received;
+use incoming::Received;
 use repeating::Repeated;
 use rounds::Turned;
 ghost use mathlib.Core.Path.{_≡_};

@@ -2,25 +2,16 @@
 -- Assumes nothing.
 use mathlib.Core.Path.{_≡_}
 use mathlib.Core.List.{List}
-use Prim.Native.Nat.{ℕ, _+_, _≤_, _<_}
+use Prim.Native.Nat.{ℕ, _<_}
 use lib.ListN.{length, getD}
 use Rattle.keys.specs.declared.Bound.{Bound}
 use Rattle.limits.specs.Limits.{valueMax}
-use Rattle.columns.specs.Column.{Rising}
 use Rattle.records.specs.Table.{Value, Table, replaced, Size}
 use Rattle.memory.specs.Bytes.{part}
 use Rattle.records.specs.Memory.{Keeps}
+use Rattle.entered.specs.Entered.{Entered}
 use Rattle.entries.specs.declared.Replaced.{Replaced}
 use Rattle.entries.specs.declared.Replaced.the-variants.{Entries, Full, TooLong, Malformed}
-
--- a list of m entries as it is handed in: keys, and where in the bytes each value stands. It is well formed if the columns have m places, the
--- keys rise strictly and each value lies within the bytes
-pub record Entered (ks ats ls bytes : List ℕ) (m : ℕ) : Type 0 where
-  pub fits-keys : m ≤ length ks
-  pub fits-ats : m ≤ length ats
-  pub fits-lens : m ≤ length ls
-  pub rising : Rising ks m
-  pub inside : (i : ℕ) → i < m → getD ats i 0 + getD ls i 0 ≤ length bytes
 
 -- the range is replaced by the entries, or the list is not well formed, has a value that is too long, or does not fit: then nothing has changed
 abbrev pub ReplaceCases : Replaced → (keys slots lens values : List ℕ) → ℕ → Bound → Bound → (ks ats ls bytes : List ℕ) → ℕ

@@ -1,12 +1,13 @@
 // Replacing a range by a list of entries. The list is handed in as columns of m places: keys, which
 // rise strictly, and where in the bytes each value stands.
+use entered::Look;
 use keys::Bound;
-use limits::VALUE_MAX;
 use stores::Stored;
 ghost use Prim.Native.Nat.{_≤_};
 ghost use lib.ListN.{length};
 ghost use Rattle.entries.specs.Answers.{AfterReplace};
-ghost use Rattle.entries.specs.Inner.{CheckCases, Checked, Short, AfterOne, AfterStores};
+ghost use Rattle.entered.specs.Entered.{CheckCases};
+ghost use Rattle.entries.specs.Inner.{AfterOne, AfterStores};
 
 // What a replacement answers: how many entries there are now, or a refusal, and then nothing has
 // changed.
@@ -15,13 +16,6 @@ pub enum Replaced {
     Full,
     TooLong,
     Malformed,
-}
-
-// What a look at the list finds.
-enum Look {
-    Fine,
-    Long,
-    Bad,
 }
 
 // Replaces the range by the entries.
@@ -43,7 +37,7 @@ pub fn replace(
         (now (ks .entry)) (now (ats .entry)) (now (ls .entry)) (now (bytes .entry)) m r
         (now (keys .exit)) (now (slots .exit)) (now (lens .exit)) (now (values .exit)) ⌝ }
 {
-    let look = check(ks, ats, ls, m, bytes);
+    let look = entered::check(ks, ats, ls, m, bytes);
     match look {
         Look::Bad => Replaced::Malformed,
         Look::Long => Replaced::TooLong,
@@ -79,39 +73,6 @@ fn enter(
     Replaced::Entries(now)
 }
 
-// Is the list well formed, and no value too long?
-fn check(ks: &[u64], ats: &[u64], ls: &[u64], m: usize, bytes: &[u8]) -> Look
-    ensures { λ r. ⌜ Checked (now (ks .entry)) (now (ats .entry)) (now (ls .entry)) (now (bytes .entry)) m r ⌝ }
-{
-    if !columns::rises(ks, m) {
-        return Look::Bad;
-    }
-    if !strings::inside(ats, ls, m, bytes.len()) {
-        return Look::Bad;
-    }
-    if !short(ls, m) {
-        return Look::Long;
-    }
-    Look::Fine
-}
-
-// Is none of the m values too long?
-fn short(ls: &[u64], m: usize) -> bool
-    ensures { λ r. ⌜ Short (now (ls .entry)) m r ⌝ }
-{
-    let mut i: usize = 0;
-    while i < m {
-        if ls.len() <= i {
-            return true;
-        }
-        if VALUE_MAX < ls[i] as usize {
-            return false;
-        }
-        i += 1;
-    }
-    true
-}
-
 // Stores the m entries one after the other, and answers how many entries there are then.
 fn store(
     keys: &mut [u64],
@@ -141,7 +102,7 @@ fn store(
     now
 }
 
-// Stores one entry. What does not fit is passed over: that never happens after the checks above.
+// Stores one entry. What does not fit is passed over: that never happens after the checks before.
 fn store_one(
     keys: &mut [u64],
     slots: &mut [u64],

@@ -8,8 +8,9 @@ use Rattle.message.specs.Message.{Address}
 use Rattle.hosts.specs.declared.State.{State}
 use Rattle.hosts.specs.Memory.{Memory}
 use Rattle.numbers.specs.Words.{words, placeWord, stateOf}
-use Rattle.receiving.specs.declared.Arrival.{Arrival}
-use Rattle.receiving.specs.Answers.{ackLength, AfterReceive}
+use Rattle.incoming.specs.declared.Arrival.{Arrival}
+use Rattle.incoming.specs.Answers.{ackLength}
+use Rattle.receiving.specs.Answers.{AfterReceive}
 use Rattle.codes.specs.Codes.{receivedCode}
 use Rattle.codes.proofs.Laws.{received-refused}
 use Rattle.exporting_receive.specs.Answers.{Receiving, KeptArrival}

@@ -8,8 +8,9 @@ use lib.ListN.{length}
 use Rattle.message.specs.Message.{Address}
 use Rattle.hosts.specs.Memory.{Memory}
 use Rattle.numbers.specs.Words.{words, stateOf}
-use Rattle.receiving.specs.declared.Arrival.{Arrival}
-use Rattle.receiving.specs.Answers.{ackLength, AfterReceive}
+use Rattle.incoming.specs.declared.Arrival.{Arrival}
+use Rattle.incoming.specs.Answers.{ackLength}
+use Rattle.receiving.specs.Answers.{AfterReceive}
 use Rattle.codes.specs.Codes.{unfit, receivedCode}
 
 -- The words hold the numbers after receiving answered d, the last word any number, and r tells its outcome. Too few words or too few bytes for an Ack

@@ -1,7 +1,7 @@
 // A datagram arrives at a host whose numbers stand in lent words.
 use format::WIDTH;
+use incoming::Arrival;
 use numbers::WORDS;
-use receiving::Arrival;
 ghost use mathlib.Core.List.{List};
 ghost use Prim.Native.Nat.{ℕ};
 ghost use Rattle.hosts.specs.Memory.{memory};

@@ -1,14 +1,14 @@
-// Giving the keys of a range to an owner, and how many bounds that would leave. `plans` says what to
-// do with the bounds, and it is done to both columns alike. Nothing is asked of a caller.
+// Giving the keys of a range to an owner. `plans` says what to do with the bounds, and it is done to both
+// columns alike. Nothing is asked of a caller.
 use delegation::Changed;
 use keys::Bound;
 use plans::Plan;
 ghost use mathlib.Core.Path.{_≡_};
 ghost use Prim.Native.Nat.{_+_, _≤_};
 ghost use lib.ListN.{length};
-ghost use Rattle.delegation.specs.Map.{AfterSet, Left};
+ghost use Rattle.delegation.specs.Map.{AfterSet};
 ghost use Rattle.plans.specs.Plan.{Edited, keyOf, count};
-ghost use Rattle.grants.specs.Edit.{Editable, put};
+ghost use Rattle.bounding.specs.Edit.{Editable, put};
 
 // Gives the keys of [lo, hi) to the owner. An empty range changes nothing.
 pub fn set(
@@ -37,27 +37,6 @@ pub fn set(
     edit(lows, n, plan, key(lo), key(hi));
     edit(owners, n, plan, owner, plan.after);
     Changed::Bounds(plan.bounds)
-}
-
-// How many bounds giving the keys of [lo, hi) to the owner would leave.
-pub fn bounds_after(
-    lows: &[u64],
-    owners: &[u64],
-    n: usize,
-    lo: Bound,
-    hi: Bound,
-    owner: u64,
-) -> usize
-    ensures { λ r. ⌜ Left (now (lows .entry)) (now (owners .entry)) n lo hi owner r ⌝ }
-{
-    if !delegation::enough(lows, owners, n) {
-        return 0;
-    }
-    if keys::is_empty(lo, hi) {
-        return n;
-    }
-    let plan = plans::planned(lows, owners, n, lo, hi, owner);
-    plan.bounds
 }
 
 // One column of a change. The bound at hi is put first, and then the one at lo before it.

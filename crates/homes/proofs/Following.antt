@@ -24,9 +24,10 @@ use Rattle.hosts.specs.Memory.{Memory, memory}
 use Rattle.hosts.specs.Limits.{fitsRoom}
 use Rattle.hosts.specs.Answers.{sendsOf as processedSends}
 use Rattle.hosts.specs.Keeps.{Keeps}
-use Rattle.receiving.specs.declared.Received.{Received}
-use Rattle.receiving.specs.declared.Received.the-variants.{Unfit}
-use Rattle.receiving.specs.Answers.{ackLength, sendsOf as receivedSends, AfterReceive, keepsAll}
+use Rattle.incoming.specs.declared.Received.{Received}
+use Rattle.incoming.specs.declared.Received.the-variants.{Unfit}
+use Rattle.incoming.specs.Answers.{ackLength, sendsOf as receivedSends, keepsAll}
+use Rattle.receiving.specs.Answers.{AfterReceive}
 use Rattle.repeating.specs.declared.Repeated.{Repeated}
 use Rattle.repeating.specs.declared.Repeated.the-variants.{Places, NoRoom}
 use Rattle.repeating.specs.Answers.{AfterRepeat, packets}

@@ -14,8 +14,9 @@ use Rattle.hosts.specs.declared.State.{State}
 use Rattle.hosts.specs.declared.Done.{Done}
 use Rattle.hosts.specs.Memory.{Memory}
 use Rattle.hosts.specs.Answers.{sendsOf as processedSends}
-use Rattle.receiving.specs.declared.Arrival.{Arrival}
-use Rattle.receiving.specs.Answers.{AfterReceive, sendsOf as receivedSends}
+use Rattle.incoming.specs.declared.Arrival.{Arrival}
+use Rattle.incoming.specs.Answers.{sendsOf as receivedSends}
+use Rattle.receiving.specs.Answers.{AfterReceive}
 use Rattle.processing.specs.Answers.{AfterProcess}
 use Rattle.repeating.specs.declared.Repeated.{Repeated}
 use Rattle.repeating.specs.declared.Repeated.the-variants.{Places, NoRoom}

@@ -49,7 +49,7 @@ pub extern "C" fn tagshards_judged_map_bounds_after(
 ) -> usize {
     let low = code::bound(lo_end, lo);
     let high = code::bound(hi_end, hi);
-    grants::bounds_after(lows, owners, n, low, high, owner)
+    bounding::bounds_after(lows, owners, n, low, high, owner)
 }
 
 #[no_mangle]

@@ -1,39 +1,33 @@
--- What all answers share: the host that memory keeps, its step by the definition, the Ack that is written. And the answers to what is no message.
+-- The answers before a datagram is looked at, and to what is no message.
 -- Assumes nothing.
 use mathlib.Core.Path.{_≡_, refl, sym, ap, _∙_, subst}
 use mathlib.Core.Bool.{Bool, true, false, false≢true}
-use mathlib.Core.List.{List, []}
+use mathlib.Core.List.{List}
 use mathlib.Core.Option.{Option, none, some, Option·none-ne-some}
-use Prim.Native.Nat.{ℕ, suc, _≤_, _<_}
+use Prim.Native.Nat.{ℕ, _≤_, _<_}
 use native.Mathlib.Omega.{arith}
-use lib.ListN.{length, take}
-use lib.Dec.{eqb, leb}
-use Rattle.format.specs.Number.{width, numbers}
-use Rattle.format.proofs.Numbers.{length-digits}
-use Rattle.memory.proofs.Parts.{placed-in}
-use Rattle.message.specs.Message.{Address, Body, Datagram, message, ack}
-use Rattle.message.specs.Table.{written}
-use Rattle.message.specs.Answers.{AfterParse, AfterWrite}
+use lib.ListN.{length}
+use Rattle.message.specs.Message.{Address, Datagram, message, ack}
+use Rattle.message.specs.Answers.{AfterParse}
 use Rattle.message.specs.declared.Parsed.{Parsed}
 use Rattle.message.specs.declared.Parsed.the-variants.{Ack as AckOf, Invalid as NoMessage}
-use Rattle.message.specs.declared.Written.{Written}
-use Rattle.message.specs.declared.Written.the-variants.{Bytes, NoRoom, Invalid as Unwritable}
 use Rattle.decoding.specs.Decode.{read}
-use Rattle.decoding.proofs.Decided.{same-refl}
 use Rattle.decoding.proofs.Laws.{parse-reads}
 use Rattle.protocol.specs.State.{Host, Letter}
-use Rattle.protocol.specs.Delivery.{Step, still, confirmed}
-use Rattle.protocol.specs.Receive.{onNumber, onAck, onDatagram, onRoom, receive}
+use Rattle.protocol.specs.Delivery.{Step, confirmed}
+use Rattle.protocol.specs.Receive.{onAck, onRoom, receive}
 use Rattle.hosts.specs.declared.State.{State}
 use Rattle.hosts.specs.Memory.{Memory, memory}
 use Rattle.hosts.specs.Limits.{Limits}
 use Rattle.hosts.specs.Keeps.{limitsOf, RoomCases, Keeps}
 use Rattle.acknowledging.specs.Answers.{AfterAck}
-use Rattle.receiving.specs.declared.Received.{Received}
-use Rattle.receiving.specs.declared.Received.the-variants.{Full, Invalid, Elsewhere, Taken, Unreceived, Again, Future, Arrived, Stale, Unfit}
-use Rattle.receiving.specs.declared.Arrival.{Arrival}
-use Rattle.receiving.specs.Answers.{ackLength, outcomeOf, sendsOf, Tested, Receives, AfterReceive}
-use Rattle.receiving.specs.Inner.{leaving, ackOutcome, Handled}
+use Rattle.incoming.specs.declared.Received.the-variants.{Full, Invalid, Arrived, Stale, Unfit}
+use Rattle.incoming.specs.declared.Arrival.{Arrival}
+use Rattle.incoming.specs.Answers.{ackLength, Tested, Receives}
+use Rattle.incoming.specs.Handled.{leaving, Handled}
+use Rattle.incoming.proofs.Laws.{not-unfit, room-free, stays, step-read}
+use Rattle.receiving.specs.Answers.{AfterReceive}
+use Rattle.receiving.specs.Inner.{ackOutcome}
 
 -- ---- what was said of an answer holds of one that is equal to it
 
@@ -45,54 +39,15 @@ pub received-as : {m : Memory} {k : State} {room : List ℕ} {a : Address} {s ac
 received-as {m} {k} {room} {a} {s} {ack} {m′ = m′} {room′ = room′} {ack′ = ack′} e A =
     subst (λ (r : Arrival). AfterReceive m k room a s ack r m′ room′ ack′) (sym e) A
 
-pub handled-as : {known : Host → Type 0} {m : Memory} {k : State} {room : List ℕ} {a : Address} {s ack : List ℕ} {r t : Arrival} {m′ : Memory}
-    {room′ ack′ : List ℕ} → t ≡ r → Handled known m k room a s ack r m′ room′ ack′ → Handled known m k room a s ack t m′ room′ ack′
-handled-as {known} {m} {k} {room} {a} {s} {ack} {m′ = m′} {room′ = room′} {ack′ = ack′} e A =
-    subst (λ (r : Arrival). Handled known m k room a s ack r m′ room′ ack′) (sym e) A
-
--- every answer but Unfit
-abbrev Fit : Received → Type 0
-Fit Unfit = ⊥
-Fit Full = Unit
-Fit Invalid = Unit
-Fit Elsewhere = Unit
-Fit Taken = Unit
-Fit Unreceived = Unit
-Fit Again = Unit
-Fit Future = Unit
-Fit Arrived = Unit
-Fit Stale = Unit
-
-pub not-unfit : (o : Received) → Fit o → o ≡ Unfit → ⊥
-not-unfit o f e = subst Fit e f
-
 -- is it a message?
 abbrev isMessage : Option Datagram → Bool
 isMessage none = false
 isMessage (some (message n to b)) = true
 isMessage (some (ack n)) = false
 
--- ---- the Ack
-
-length-ack : (n : ℕ) → length (written (ack n)) ≡ ackLength
-length-ack n = ap suc (length-digits width n)
-
--- it stands at the front, if there is memory for it
-pub ack-written : (n : ℕ) (d : List ℕ) (r : Written) (d′ : List ℕ) → AfterWrite (ack n) d r d′ → n < numbers → ackLength ≤ length d
-    → take ackLength d′ ≡ written (ack n)
-ack-written n d (Bytes x) d′ A q f =
-    let e = length-ack n in
-    subst (λ (l : ℕ). take l d′ ≡ written (ack n)) e
-    (ap (take (length (written (ack n)))) (A .is .2) ∙ placed-in d 0 (written (ack n)) (omega (arith, e, f)))
-ack-written n d NoRoom d′ A q f = absurd (omega (arith, length-ack n, f, A .is .1))
-ack-written n d Unwritable d′ A q f = absurd (A .is .1 (omega arith, q))
-
 -- ---- the room
 
 module _ {m : Memory} {k : State} {room : List ℕ} {h : Host} (K : Keeps m k room h) where
-  room-free : h .room ≡ none → k .len ≡ 0
-  room-free e = subst (λ (o : Option Letter). RoomCases m k room h o) e (K .room-is)
-
   free-room : k .len ≡ 0 → h .room ≡ none
   free-room z = go (h .room) (K .room-is)
     where
@@ -104,23 +59,8 @@ module _ {m : Memory} {k : State} {room : List ℕ} {h : Host} (K : Keeps m k ro
   taken-room z = go (h .room) refl
     where
       go : (o : Option Letter) → h .room ≡ o → (l : Letter) × (h .room ≡ some l)
-      go none e = absurd (z (room-free e))
+      go none e = absurd (z (room-free K e))
       go (some l) e = (l, e)
-
--- a step with which nothing changes and nothing is sent
-module _ {m : Memory} {k : State} {room : List ℕ} (a : Address) (ack : List ℕ) {h : Host} (K : Keeps m k room h) where
-  pub stays : (o : Received) → sendsOf a ack o ≡ [] → (t : Step) → t ≡ still h (outcomeOf o) → Receives m k room a ack o t
-  stays o n t e = subst (λ (u : Step). Receives m k room a ack o u) (sym e) (record { keeps = K; outcome = refl; sends = n })
-
--- the definition's step, by what the datagram is
-module _ (h : Host) (a : Address) (s : List ℕ) (free : h .room ≡ none) where
-  pub step-read : (roomy : Bool) (o : Option Datagram) → read s ≡ o → receive roomy h a s ≡ onDatagram roomy h a o
-  step-read roomy o q = ap (λ (r : Option Letter). onRoom r roomy h a s) free ∙ ap (onDatagram roomy h a) q
-
-  -- .. and, if it is a message for this host, by its number
-  pub step-number : (roomy : Bool) (n : ℕ) (b : Body) → read s ≡ some (message n (h .me) b) → (new old : Bool) → eqb n (suc (h .received a)) ≡ new
-      → leb n (h .received a) ≡ old → receive roomy h a s ≡ onNumber new old roomy h a n b
-  step-number roomy n b q new old e f = step-read roomy (some (message n (h .me) b)) q ∙ rw (same-refl (h .me), e, f) refl
 
 -- ---- before the datagram is looked at
 

@@ -1,4 +1,1 @@
-pub mod Room
 pub mod Laws
-pub mod Messages
-pub mod Taken

@@ -15,9 +15,9 @@ use Rattle.hosts.specs.declared.State.{State}
 use Rattle.hosts.specs.Memory.{Memory, memory}
 use Rattle.hosts.specs.Keeps.{Keeps}
 use Rattle.hosts.specs.Answers.{outcomeOf as processed, sendsOf as processedSends}
-use Rattle.receiving.specs.declared.Received.{Received}
-use Rattle.receiving.specs.declared.Received.the-variants.{Full, Invalid, Elsewhere, Taken, Unreceived, Again, Future, Arrived, Stale, Unfit as TooShort}
-use Rattle.receiving.specs.Answers.{outcomeOf as received, sendsOf as receivedSends}
+use Rattle.incoming.specs.declared.Received.{Received}
+use Rattle.incoming.specs.declared.Received.the-variants.{Full, Invalid, Elsewhere, Taken, Unreceived, Again, Future, Arrived, Stale, Unfit as TooShort}
+use Rattle.incoming.specs.Answers.{outcomeOf as received, sendsOf as receivedSends}
 use Rattle.repeating.specs.Answers.{packets}
 use Rattle.rounds.specs.declared.Turned.{Turned}
 use Rattle.rounds.specs.declared.Turned.the-variants.{Came, Did, Resent, Waits, Unfit}

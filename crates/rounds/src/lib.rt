@@ -2,8 +2,8 @@
 // its turns only. The count begins anew when it has acted.
 use hosts::Processed;
 use hosts::State;
+use incoming::Received;
 use limits::RESEND_EVERY;
-use receiving::Received;
 use repeating::Repeated;
 ghost use mathlib.Core.Path.{_≡_};
 ghost use Rattle.rounds.specs.Answers.{AfterAgain, overOf, refusal};

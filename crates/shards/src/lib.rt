@@ -68,7 +68,7 @@ pub fn movable(lows: &[u64], owners: &[u64], keys: &[u64], k: State, lo: Bound, 
 pub fn fits(lows: &[u64], owners: &[u64], bounds: usize, lo: Bound, hi: Bound, i: usize) -> bool
     ensures { λ r. ⌜ Fits (now (lows .entry)) (now (owners .entry)) bounds lo hi i r ⌝ }
 {
-    let after = grants::bounds_after(lows, owners, bounds, lo, hi, i as u64);
+    let after = bounding::bounds_after(lows, owners, bounds, lo, hi, i as u64);
     if lows.len() < after {
         return false;
     }

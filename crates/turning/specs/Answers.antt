@@ -13,7 +13,7 @@ use Rattle.hosts.specs.declared.State.{State}
 use Rattle.hosts.specs.Memory.{Memory, memory}
 use Rattle.hosts.specs.Limits.{fitsRoom}
 use Rattle.hosts.specs.Keeps.{limitsOf, Keeps}
-use Rattle.receiving.specs.Answers.{ackLength, Tested, outcomeOf as received}
+use Rattle.incoming.specs.Answers.{ackLength, Tested, outcomeOf as received}
 use Rattle.rounds.specs.declared.Turned.the-variants.{Unfit}
 use Rattle.rounds.specs.declared.Ended.{Ended}
 use Rattle.rounds.specs.Answers.{refuses, Turns}

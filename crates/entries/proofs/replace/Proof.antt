@@ -4,8 +4,8 @@ use mathlib.Core.Path.{_≡_, refl, subst}
 use mathlib.Core.List.{List}
 use Prim.Native.Nat.{ℕ}
 use borrow.Author.Needs.{needs}
-use Rattle.entries.specs.Inner.{CheckCases}
-use Rattle.entries.specs.declared.Look.{Look}
+use Rattle.entered.specs.Entered.{CheckCases}
+use Rattle.entered.specs.declared.Look.{Look}
 use Rattle.entries.proofs.replace.Statement.{statement}
 use Rattle.entries.proofs.replace.Tie as tie
 

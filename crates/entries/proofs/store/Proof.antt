@@ -11,7 +11,7 @@ use Rattle.limits.specs.Limits.{valueMax}
 use Rattle.records.specs.Table.{Table, storing, Size}
 use Rattle.memory.specs.Bytes.{part}
 use Rattle.records.specs.Memory.{valueAt, Keeps}
-use Rattle.entries.specs.Answers.{Entered}
+use Rattle.entered.specs.Entered.{Entered}
 use Rattle.records.proofs.Stores.{room-for}
 use Rattle.entries.proofs.store.Statement.{statement}
 use Rattle.entries.proofs.store.Tie as tie

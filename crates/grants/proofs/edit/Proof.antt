@@ -5,8 +5,8 @@ use mathlib.Core.List.{List}
 use Prim.Native.Nat.{ℕ, _+_, _-_}
 use borrow.Author.Needs.{needs}
 use Rattle.columns.specs.Column.{without}
-use Rattle.grants.specs.Edit.{put}
-use Rattle.grants.proofs.Edited.{edited, edited-is}
+use Rattle.bounding.specs.Edit.{put}
+use Rattle.bounding.proofs.Edited.{edited, edited-is}
 use Rattle.grants.proofs.edit.Statement.{statement}
 use Rattle.grants.proofs.edit.Tie as tie
 

@@ -9,7 +9,7 @@ use borrow.Author.Tests.{not-true, not-false}
 use lib.ListN.{length}
 use Rattle.keys.specs.Bound.{below}
 use Rattle.delegation.proofs.Laws.{keeps-cong, updated-empty}
-use Rattle.grants.proofs.Takes.{planned-takes}
+use Rattle.bounding.proofs.Takes.{planned-takes}
 use Rattle.grants.proofs.set.Statement.{statement}
 use Rattle.grants.proofs.set.Tie as tie
 

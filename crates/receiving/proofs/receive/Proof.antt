@@ -5,7 +5,7 @@ use native.Mathlib.Omega.{arith}
 use borrow.Author.Needs.{needs}
 use Rattle.receiving.proofs.receive.Statement.{statement}
 use Rattle.receiving.proofs.receive.Tie as tie
-use Rattle.receiving.specs.Inner.{leaving}
+use Rattle.incoming.specs.Handled.{leaving}
 use Rattle.receiving.proofs.Laws.{parse-as, received-as, unfit, full, handled, invalid, ack-handled}
 
 add-if1 : tie.Need-add-if1

@@ -1,4 +1,4 @@
--- What is done to one column of a change. No caller needs this; the public contracts are in `delegation`'s `Map`.
+-- What is done to one column of a change. The public contracts are in `delegation`'s `Map`; their callers need not read this.
 -- Assumes nothing.
 use mathlib.Core.Bool.{Bool, true, false}
 use mathlib.Core.List.{List}

@@ -1,9 +1,9 @@
--- `entries::check` meets its contract. Each answer is what the test that gives it says.
+-- `entered::check` meets its contract. Each answer is what the test that gives it says.
 -- Assumes nothing.
 use borrow.Author.Needs.{needs}
 use borrow.Author.Tests.{not-true, not-false}
-use Rattle.entries.proofs.check.Statement.{statement}
-use Rattle.entries.proofs.check.Tie as tie
+use Rattle.entered.proofs.check.Statement.{statement}
+use Rattle.entered.proofs.check.Tie as tie
 
 rises-requires : tie.Need-rises-requires
 rises-requires c κs = search needs

@@ -10,7 +10,7 @@ use Rattle.columns.specs.Column.{without}
 use Rattle.columns.proofs.Columns.{length-inserted, inserted-before, inserted-at, inserted-after, length-without, cut-before, cut-after}
 use Rattle.plans.specs.declared.Plan.{Plan}
 use Rattle.plans.specs.Plan.{count, Edited}
-use Rattle.grants.specs.Edit.{put, Editable}
+use Rattle.bounding.specs.Edit.{put, Editable}
 
 -- ---- an insertion, if it is wanted
 

@@ -27,11 +27,11 @@ use Rattle.protocol.proofs.Addresses.{same-false}
 use Rattle.sorting.specs.declared.Kind.{Kind}
 use Rattle.sorting.specs.declared.Kind.the-variants.{Elsewhere, Again, Future, Next as Following}
 use Rattle.sorting.specs.Answers.{Sorted, AfterSort}
-use Rattle.receiving.specs.declared.Received.the-variants.{Elsewhere as ForAnother, Again as TakenBefore, Future as TooEarly}
-use Rattle.receiving.specs.declared.Arrival.{Arrival}
-use Rattle.receiving.specs.Answers.{Receives}
-use Rattle.receiving.specs.Inner.{leaving, Handled, Next}
-use Rattle.receiving.proofs.Laws.{not-unfit, ack-written, stays, step-read, step-number}
+use Rattle.incoming.specs.declared.Received.the-variants.{Elsewhere as ForAnother, Again as TakenBefore, Future as TooEarly}
+use Rattle.incoming.specs.declared.Arrival.{Arrival}
+use Rattle.incoming.specs.Answers.{Receives}
+use Rattle.incoming.specs.Handled.{leaving, Handled, Next}
+use Rattle.incoming.proofs.Laws.{not-unfit, ack-written, stays, step-read, step-number}
 
 -- the parts of a message; of anything else, anything
 abbrev numberIn : Option Datagram → ℕ

@@ -1,4 +1,4 @@
--- `grants::bounds_after` meets its contract. It is the plan's own number, whatever is lent; an empty range leaves as many as there are.
+-- `bounding::bounds_after` meets its contract. It is the plan's own number, whatever is lent; an empty range leaves as many as there are.
 -- Assumes nothing.
 use mathlib.Core.Path.{_≡_, sym, _∙_}
 use mathlib.Core.Bool.{true, false}
@@ -6,9 +6,9 @@ use borrow.Author.Needs.{needs}
 use borrow.Author.Tests.{not-true, not-false}
 use Rattle.keys.specs.Bound.{below}
 use Rattle.delegation.proofs.Laws.{keeps-cong, keeps-takes, updated-empty}
-use Rattle.grants.proofs.Takes.{planned-takes}
-use Rattle.grants.proofs.bounds_after.Statement.{statement}
-use Rattle.grants.proofs.bounds_after.Tie as tie
+use Rattle.bounding.proofs.Takes.{planned-takes}
+use Rattle.bounding.proofs.bounds_after.Statement.{statement}
+use Rattle.bounding.proofs.bounds_after.Tie as tie
 
 enough-requires : tie.Need-enough-requires
 enough-requires c κs = search needs

@@ -1,10 +1,10 @@
--- `receiving::message` meets its contract.
+-- `incoming::message` meets its contract.
 -- Assumes nothing.
 use borrow.Author.Needs.{needs}
-use Rattle.receiving.proofs.message.Statement.{statement}
-use Rattle.receiving.proofs.message.Tie as tie
-use Rattle.receiving.proofs.Laws.{handled-as}
-use Rattle.receiving.proofs.Messages.{elsewhere, again, future, passed-on}
+use Rattle.incoming.proofs.message.Statement.{statement}
+use Rattle.incoming.proofs.message.Tie as tie
+use Rattle.incoming.proofs.Laws.{handled-as}
+use Rattle.incoming.proofs.Messages.{elsewhere, again, future, passed-on}
 
 sort-requires : tie.Need-sort-requires
 sort-requires c κs = search needs

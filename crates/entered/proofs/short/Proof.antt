@@ -1,4 +1,4 @@
--- `entries::short` meets its contract. The loop's invariant: no value passed is too long. The measure is what is left.
+-- `entered::short` meets its contract. The loop's invariant: no value passed is too long. The measure is what is left.
 -- Past the column's end a length reads as 0.
 -- Assumes nothing.
 use mathlib.Core.Logic.{⊎-elim}
@@ -9,8 +9,8 @@ use lib.ListN.{length, getD, List·getD-eq-default}
 use borrow.Author.Count.{below-none, below-more}
 use Rattle.columns.proofs.Cases.{lt-or-ge}
 use Rattle.limits.specs.Limits.{valueMax}
-use Rattle.entries.proofs.short.Statement.{statement}
-use Rattle.entries.proofs.short.Tie as tie
+use Rattle.entered.proofs.short.Statement.{statement}
+use Rattle.entered.proofs.short.Tie as tie
 
 abbrev Inv-loop : tie.InvT-loop
 Inv-loop ls m i₀ i = (k : ℕ) → k < i → getD ls k 0 ≤ valueMax

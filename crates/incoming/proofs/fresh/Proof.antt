@@ -1,11 +1,11 @@
--- `receiving::fresh` meets its contract.
+-- `incoming::fresh` meets its contract.
 -- Assumes nothing.
 use borrow.Author.Needs.{needs}
-use Rattle.receiving.proofs.fresh.Statement.{statement}
-use Rattle.receiving.proofs.fresh.Tie as tie
+use Rattle.incoming.proofs.fresh.Statement.{statement}
+use Rattle.incoming.proofs.fresh.Tie as tie
 use borrow.Author.Tests.{not-true, not-false}
-use Rattle.receiving.proofs.Laws.{handled-as}
-use Rattle.receiving.proofs.Taken.{take-as, unroomy, no-room, taken}
+use Rattle.incoming.proofs.Laws.{handled-as}
+use Rattle.incoming.proofs.Taken.{take-as, unroomy, no-room, taken}
 
 roomy-requires : tie.Need-roomy-requires
 roomy-requires c κs = search needs

@@ -25,11 +25,11 @@ use Rattle.rooms.specs.Answers.{Tested as RoomTested}
 use Rattle.taking.specs.declared.Taken.{Taken as Took}
 use Rattle.taking.specs.declared.Taken.the-variants.{Now, NoRoom}
 use Rattle.taking.specs.Answers.{AfterTake}
-use Rattle.receiving.specs.declared.Received.the-variants.{Taken, Unreceived}
-use Rattle.receiving.specs.Answers.{Receives}
-use Rattle.receiving.specs.Inner.{leaving, Handled, Next}
-use Rattle.receiving.proofs.Room.{keeps-letter, was-roomy}
-use Rattle.receiving.proofs.Laws.{not-unfit, ack-written, stays, step-number}
+use Rattle.incoming.specs.declared.Received.the-variants.{Taken, Unreceived}
+use Rattle.incoming.specs.Answers.{Receives}
+use Rattle.incoming.specs.Handled.{leaving, Handled, Next}
+use Rattle.incoming.proofs.Room.{keeps-letter, was-roomy}
+use Rattle.incoming.proofs.Laws.{not-unfit, ack-written, stays, step-number}
 
 -- what was said of an answer holds of one that is equal to it
 pub take-as : {nameLens names counts room : List ℕ} {k : State} {a : Address} {x : ℕ} {s : List ℕ} {r t : Took} {nameLens′ names′ counts′ room′ : List ℕ}

@@ -12,8 +12,8 @@ use Rattle.delegation.specs.Map.{Keeps, Takes, updated}
 use Rattle.delegation.proofs.Laws.{keeps-takes}
 use Rattle.plans.specs.declared.Plan.{Plan}
 use Rattle.plans.specs.Plan.{keyOf, count, Edited, Planned}
-use Rattle.grants.specs.Edit.{Editable}
-use Rattle.grants.proofs.Edited.{edited, edited-length, edited-is}
+use Rattle.bounding.specs.Edit.{Editable}
+use Rattle.bounding.proofs.Edited.{edited, edited-length, edited-is}
 
 -- the same column with two more places
 longer : List ℕ → List ℕ

@@ -1,0 +1,4 @@
+pub mod Room
+pub mod Laws
+pub mod Messages
+pub mod Taken
