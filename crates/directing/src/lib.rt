@@ -32,8 +32,8 @@ pub fn shard(n: u64, to: &[u8], lo: Bound, hi: Bound, address: &[u8], d: &mut [u
     if BYTES_MAX <= address.len() {
         return Written::Invalid;
     }
-    let low = options::bound_length(lo);
-    let both = low + options::bound_length(hi);
+    let low = lengths::bound_length(lo);
+    let both = low + lengths::bound_length(hi);
     let more = both + (WIDTH + address.len());
     let begun = fronts::begin(n, to, 4, more, d);
     match begun {
