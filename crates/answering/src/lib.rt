@@ -5,7 +5,7 @@ use fronts::Start;
 use message::Written;
 ghost use Rattle.format.specs.Format.{number, maybe, pair};
 ghost use Rattle.fronts.specs.Front.{AfterFields};
-ghost use Rattle.options.specs.Given.{given};
+ghost use Rattle.message.specs.Given.{given};
 ghost use Rattle.message.specs.Message.{message, set, reply};
 ghost use Rattle.message.specs.Table.{value};
 ghost use Rattle.message.specs.Answers.{AfterWrite};
@@ -26,7 +26,7 @@ pub fn reply(n: u64, to: &[u8], key: u64, some: bool, v: &[u8], d: &mut [u8]) ->
 fn keyed(kind: u8, n: u64, to: &[u8], key: u64, some: bool, v: &[u8], d: &mut [u8]) -> Written
     ensures { λ r. ⌜ AfterFields (pair number (maybe value)) (key, given some (now (v .entry))) n (now (to .entry)) kind (now (d .entry)) r (now (d .exit)) ⌝ }
 {
-    let more = WIDTH + options::optional_length(some, v);
+    let more = WIDTH + lengths::optional_length(some, v);
     let begun = fronts::begin(n, to, kind, more, d);
     match begun {
         Start::At(at) => {

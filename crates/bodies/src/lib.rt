@@ -1,5 +1,4 @@
 // The bodies, one reader each, and the one that tells them apart by their byte.
-use fields::KeyedRead;
 use fields::RangeRead;
 use format::NumberRead;
 use format::TextRead;
@@ -8,6 +7,7 @@ use limits::BYTES_MAX;
 use lists::ListRead;
 use message::BodyView;
 use message::ListView;
+use values::KeyedRead;
 ghost use Rattle.bodies.specs.Answers.{ReadBody, ReadFields};
 
 // A body, and the place behind it.
@@ -46,7 +46,7 @@ fn get(s: &[u8], at: usize) -> BodyRead
 fn set(s: &[u8], at: usize) -> BodyRead
     ensures { λ r. ⌜ ReadFields 1 (now (s .entry)) at r ⌝ }
 {
-    let KeyedRead::Is(k, v, next) = fields::keyed(s, at) else {
+    let KeyedRead::Is(k, v, next) = values::keyed(s, at) else {
         return BodyRead::Missing;
     };
     BodyRead::Is(BodyView::Set(k, v), next)
@@ -55,7 +55,7 @@ fn set(s: &[u8], at: usize) -> BodyRead
 fn reply(s: &[u8], at: usize) -> BodyRead
     ensures { λ r. ⌜ ReadFields 2 (now (s .entry)) at r ⌝ }
 {
-    let KeyedRead::Is(k, v, next) = fields::keyed(s, at) else {
+    let KeyedRead::Is(k, v, next) = values::keyed(s, at) else {
         return BodyRead::Missing;
     };
     BodyRead::Is(BodyView::Reply(k, v), next)

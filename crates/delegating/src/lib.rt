@@ -39,8 +39,8 @@ pub fn delegate(
     let Size::Is(total) = sizes::size_of(lens, m) else {
         return Written::Invalid;
     };
-    let low = options::bound_length(lo);
-    let both = low + options::bound_length(hi);
+    let low = lengths::bound_length(lo);
+    let both = low + lengths::bound_length(hi);
     let more = both + total;
     let begun = fronts::begin(n, to, 5, more, d);
     match begun {

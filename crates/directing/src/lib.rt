@@ -1,10 +1,9 @@
-// A Redirect and a Shard written into lent bytes: the bodies that name another host.
+// A Redirect written into lent bytes: who asked for a key of another host is told that host's address.
 use format::WIDTH;
 use fronts::Start;
-use keys::Bound;
 use limits::BYTES_MAX;
 use message::Written;
-ghost use Rattle.message.specs.Message.{message, redirect, shard};
+ghost use Rattle.message.specs.Message.{message, redirect};
 ghost use Rattle.message.specs.Answers.{AfterWrite};
 
 pub fn redirect(n: u64, to: &[u8], key: u64, address: &[u8], d: &mut [u8]) -> Written
@@ -19,28 +18,6 @@ pub fn redirect(n: u64, to: &[u8], key: u64, address: &[u8], d: &mut [u8]) -> Wr
         Start::At(at) => {
             writing::number(key, d, at);
             writing::text(address, d, at + WIDTH);
-            Written::Bytes(at + more)
-        }
-        Start::NoRoom => Written::NoRoom,
-        Start::Invalid => Written::Invalid,
-    }
-}
-
-pub fn shard(n: u64, to: &[u8], lo: Bound, hi: Bound, address: &[u8], d: &mut [u8]) -> Written
-    ensures { λ r. ⌜ AfterWrite (message n (now (to .entry)) (shard lo hi (now (address .entry)))) (now (d .entry)) r (now (d .exit)) ⌝ }
-{
-    if BYTES_MAX <= address.len() {
-        return Written::Invalid;
-    }
-    let low = options::bound_length(lo);
-    let both = low + options::bound_length(hi);
-    let more = both + (WIDTH + address.len());
-    let begun = fronts::begin(n, to, 4, more, d);
-    match begun {
-        Start::At(at) => {
-            options::bound(lo, d, at);
-            options::bound(hi, d, at + low);
-            writing::text(address, d, at + both);
             Written::Bytes(at + more)
         }
         Start::NoRoom => Written::NoRoom,

@@ -1,13 +1,11 @@
--- What a reader of a field answered, at the answer that was matched.
+-- What a reader of bounds answered, at the answer that was matched.
 -- Assumes nothing.
 use mathlib.Core.Path.{_≡_, subst}
 use mathlib.Core.List.{List}
 use Prim.Native.Nat.{ℕ}
-use Rattle.fields.specs.Answers.{ReadBound, ReadRange, ReadValue, ReadKeyed}
+use Rattle.fields.specs.Answers.{ReadBound, ReadRange}
 use Rattle.fields.specs.declared.BoundRead.{BoundRead}
 use Rattle.fields.specs.declared.RangeRead.{RangeRead}
-use Rattle.fields.specs.declared.ValueRead.{ValueRead}
-use Rattle.fields.specs.declared.KeyedRead.{KeyedRead}
 
 module _ {s : List ℕ} {at : ℕ} where
   pub bound-as : {r q : BoundRead} → r ≡ q → ReadBound s at r → ReadBound s at q
@@ -15,9 +13,3 @@ module _ {s : List ℕ} {at : ℕ} where
 
   pub range-as : {r q : RangeRead} → r ≡ q → ReadRange s at r → ReadRange s at q
   range-as e A = subst (λ (x : RangeRead). ReadRange s at x) e A
-
-  pub value-as : {r q : ValueRead} → r ≡ q → ReadValue s at r → ReadValue s at q
-  value-as e A = subst (λ (x : ValueRead). ReadValue s at x) e A
-
-  pub keyed-as : {r q : KeyedRead} → r ≡ q → ReadKeyed s at r → ReadKeyed s at q
-  keyed-as e A = subst (λ (x : KeyedRead). ReadKeyed s at x) e A

@@ -1,10 +1,9 @@
-// The fields that several bodies share, read at a place of a datagram's bytes.
+// A bound, and the two of a range, read at a place of a datagram's bytes: the fields that a Shard and a
+// Delegate share. `values` reads those of a Set and a Reply.
 use format::NumberRead;
-use format::TextRead;
 use format::WIDTH;
 use keys::Bound;
-use message::ValueView;
-ghost use Rattle.fields.specs.Answers.{ReadBound, ReadRange, ReadValue, ReadKeyed};
+ghost use Rattle.fields.specs.Answers.{ReadBound, ReadRange};
 
 pub enum BoundRead {
     Is(Bound, usize),
@@ -13,16 +12,6 @@ pub enum BoundRead {
 
 pub enum RangeRead {
     Is(Bound, Bound, usize),
-    Missing,
-}
-
-pub enum ValueRead {
-    Is(ValueView, usize),
-    Missing,
-}
-
-pub enum KeyedRead {
-    Is(u64, ValueView, usize),
     Missing,
 }
 
@@ -57,37 +46,4 @@ pub fn range(s: &[u8], at: usize) -> RangeRead
         return RangeRead::Missing;
     };
     RangeRead::Is(lo, hi, next)
-}
-
-// A value, or none.
-pub fn value(s: &[u8], at: usize) -> ValueRead
-    ensures { λ r. ⌜ ReadValue (now (s .entry)) at r ⌝ }
-{
-    if s.len() <= at {
-        return ValueRead::Missing;
-    }
-    let there = s[at];
-    if there == 0 {
-        return ValueRead::Is(ValueView::None, at + 1);
-    }
-    if there != 1 {
-        return ValueRead::Missing;
-    }
-    let TextRead::Is(part) = format::text(s, at + 1) else {
-        return ValueRead::Missing;
-    };
-    ValueRead::Is(ValueView::At(part), part.at + part.len)
-}
-
-// A key and its value, or none.
-pub fn keyed(s: &[u8], at: usize) -> KeyedRead
-    ensures { λ r. ⌜ ReadKeyed (now (s .entry)) at r ⌝ }
-{
-    let NumberRead::Is(k) = format::number(s, at) else {
-        return KeyedRead::Missing;
-    };
-    let ValueRead::Is(v, next) = value(s, at + WIDTH) else {
-        return KeyedRead::Missing;
-    };
-    KeyedRead::Is(k, v, next)
 }

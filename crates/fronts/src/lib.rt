@@ -37,7 +37,7 @@ pub fn begin(n: u64, to: &[u8], kind: u8, more: usize, d: &mut [u8]) -> Start
 }
 
 // The bytes that the front of a message to that destination takes, whatever its number and kind. What
-// the fields take is told by the functions of `options`, by `sizes::size_of`, and is a number's width for
+// the fields take is told by the functions of `lengths`, by `sizes::size_of`, and is a number's width for
 // a key; together that is the message's length.
 pub fn front_length(to: &[u8]) -> usize
     ensures { λ r. ⌜ ((n t : ℕ) → r ≡ length (front n (now (to .entry)) t)) ⌝ }

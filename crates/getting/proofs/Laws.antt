@@ -12,7 +12,7 @@ use Rattle.records.specs.declared.Found.{Found}
 use Rattle.records.specs.declared.Found.the-variants.{At, Nothing}
 use Rattle.records.specs.Answers.{Got}
 use Rattle.sending.specs.Answers.{AfterSend}
-use Rattle.options.specs.Given.{given}
+use Rattle.message.specs.Given.{given}
 use native.Mathlib.Omega.{arith}
 use Rattle.limits.specs.Limits.{numbers}
 use Rattle.message.specs.Message.{Address}

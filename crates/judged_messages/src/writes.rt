@@ -59,7 +59,7 @@ pub extern "C" fn tagshards_judged_shard(
 ) -> u64 {
     let low = code::bound(lo_end, lo);
     let high = code::bound(hi_end, hi);
-    code::written(directing::shard(n, to, low, high, address, d))
+    code::written(asking::shard(n, to, low, high, address, d))
 }
 
 #[no_mangle]

@@ -1,17 +1,14 @@
 // The fields of a message that may be missing, written into lent bytes: a bound, which is a key or none
-// for end, and a value or none. Each answers whether it fits there; if not, nothing has changed.
+// for end, and a value or none. Each answers whether it fits there; if not, nothing has changed. How many
+// bytes they take is told by `lengths`.
 use format::WIDTH;
 use keys::Bound;
-ghost use mathlib.Core.Path.{_≡_};
 ghost use mathlib.Core.Bool.{true};
-ghost use Prim.Native.Nat.{_+_, _≤_};
-ghost use lib.ListN.{length};
 ghost use Rattle.memory.specs.Bytes.{Copied};
 ghost use Rattle.keys.specs.declared.Bound.the-variants.{Key};
-ghost use Rattle.format.specs.Number.{width};
 ghost use Rattle.format.specs.Format.{number, maybe, encode, Good};
 ghost use Rattle.message.specs.Table.{value, keyOf};
-ghost use Rattle.options.specs.Given.{given};
+ghost use Rattle.message.specs.Given.{given};
 
 // A bound: its key, or none for end. A bound's key is always a number.
 pub fn bound(b: Bound, d: &mut [u8], at: usize) -> bool
@@ -60,23 +57,4 @@ fn there(v: &[u8], d: &mut [u8], at: usize) -> bool
     }
     writing::byte(1, d, at);
     writing::text(v, d, at + 1)
-}
-
-// The bytes that a bound takes, and those that a value of that length takes, or none.
-pub fn bound_length(b: Bound) -> usize
-    ensures { λ r. ⌜ (r ≡ length (encode (maybe number) (keyOf b))) × (r ≤ 1 + width) ⌝ }
-{
-    match b {
-        Bound::Key(_) => 1 + WIDTH,
-        Bound::End => 1,
-    }
-}
-
-pub fn optional_length(some: bool, v: &[u8]) -> usize
-    ensures { λ r. ⌜ (r ≡ length (encode (maybe value) (given some (now (v .entry))))) × (r ≤ 1 + width + length (now (v .entry))) ⌝ }
-{
-    if some {
-        return 1 + WIDTH + v.len();
-    }
-    1
 }

@@ -2,7 +2,7 @@
 use message::Written;
 use peers::Where;
 use sending::Slot;
-ghost use Rattle.options.specs.Given.{given};
+ghost use Rattle.message.specs.Given.{given};
 ghost use Rattle.message.specs.Message.{reply};
 ghost use Rattle.sending.specs.Answers.{AfterSend};
 

@@ -13,7 +13,8 @@ use borrow.Author.Tests.{eqb-true}
 use Rattle.limits.specs.Limits.{bytesMax}
 use Rattle.message.specs.Message.{Address}
 use Rattle.memory.proofs.Parts.{length-part}
-use Rattle.strings.specs.Strings.{string, WellFormed, Inside, Distinct}
+use Rattle.strings.specs.Strings.{WellFormed, Inside}
+use Rattle.distinct.specs.Distinct.{string, Distinct}
 use Rattle.records.specs.Table.{empty}
 use Rattle.records.specs.Memory.{Shape, Keeps as KeepsTable}
 use Rattle.records.specs.Answers.{AfterStart as TableStarted}

@@ -7,7 +7,8 @@ use Prim.Native.Nat.{ℕ, _*_, _≤_, _<_}
 use lib.ListN.{length}
 use Rattle.limits.specs.Limits.{datagramMin}
 use Rattle.message.specs.Message.{Address}
-use Rattle.strings.specs.Strings.{string, WellFormed}
+use Rattle.strings.specs.Strings.{WellFormed}
+use Rattle.distinct.specs.Distinct.{string}
 use Rattle.delivery.specs.Memory.{capacity}
 use Rattle.records.specs.Memory.{Shape}
 use Rattle.protocol.specs.State.{Host, start}

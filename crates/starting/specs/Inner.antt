@@ -6,7 +6,8 @@ use mathlib.Core.Option.{none, some}
 use Prim.Native.Nat.{ℕ, _*_, _≤_, _<_}
 use lib.ListN.{length, getD}
 use Rattle.message.specs.Message.{Address}
-use Rattle.strings.specs.Strings.{string, WellFormed}
+use Rattle.strings.specs.Strings.{WellFormed}
+use Rattle.distinct.specs.Distinct.{string}
 use Rattle.protocol.specs.State.{start, fresh}
 use Rattle.starting.specs.Answers.{addresses}
 

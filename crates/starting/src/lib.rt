@@ -6,7 +6,8 @@ use hosts::State;
 use limits::BYTES_MAX;
 ghost use Prim.Native.Nat.{ℕ, _≤_, _<_};
 ghost use lib.ListN.{length};
-ghost use Rattle.strings.specs.Strings.{string, WellFormed};
+ghost use Rattle.strings.specs.Strings.{WellFormed};
+ghost use Rattle.distinct.specs.Distinct.{string};
 ghost use Rattle.delegation.specs.Map.{Keeps as KeepsMap};
 ghost use Rattle.peers.specs.Names.{Keeps as KeepsNames};
 ghost use Rattle.hosts.specs.Memory.{memory};
@@ -87,7 +88,7 @@ fn own_place(ats: &[u64], lens: &[u64], bytes: &[u8], n: usize, me: &[u8]) -> us
     if !strings::inside(ats, lens, n, bytes.len()) {
         return n;
     }
-    if !strings::distinct(ats, lens, n, bytes) {
+    if !distinct::distinct(ats, lens, n, bytes) {
         return n;
     }
     if !none_longer(lens, n, BYTES_MAX - 1) {

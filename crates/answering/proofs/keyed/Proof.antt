@@ -13,7 +13,7 @@ use Rattle.format.specs.Format.{Format, number, maybe, pair, encode, Good}
 use Rattle.format.proofs.Numbers.{length-digits}
 use Rattle.memory.proofs.Copies.{copied-then}
 use Rattle.message.specs.Table.{value}
-use Rattle.options.specs.Given.{given}
+use Rattle.message.specs.Given.{given}
 use Rattle.fronts.proofs.Fronts.{start-as, start-length, fields-written, fields-no-room, fields-no-address}
 use mathlib.Core.Bool.{Bool, true, false}
 

@@ -5,7 +5,7 @@ use Prim.Native.Nat.{_-_}
 use borrow.Author.Needs.{needs}
 use Rattle.bodies.proofs.reply.Statement.{statement}
 use Rattle.bodies.proofs.reply.Tie as tie
-use Rattle.fields.proofs.Answers.{keyed-as}
+use Rattle.values.proofs.Answers.{keyed-as}
 
 keyed-requires : tie.Need-keyed-requires
 keyed-requires c κs = search needs

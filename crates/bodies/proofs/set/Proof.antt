@@ -6,7 +6,7 @@ use borrow.Author.Needs.{needs}
 use lib.ListN.{set}
 use Rattle.bodies.proofs.set.Statement.{statement}
 use Rattle.bodies.proofs.set.Tie as tie
-use Rattle.fields.proofs.Answers.{keyed-as}
+use Rattle.values.proofs.Answers.{keyed-as}
 
 keyed-requires : tie.Need-keyed-requires
 keyed-requires c κs = search needs

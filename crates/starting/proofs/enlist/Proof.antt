@@ -7,7 +7,7 @@ use borrow.Author.Needs.{needs}
 use lib.ListN.{length, getD}
 use Rattle.starting.proofs.enlist.Statement.{statement}
 use Rattle.starting.proofs.enlist.Tie as tie
-use Rattle.strings.specs.Strings.{string}
+use Rattle.distinct.specs.Distinct.{string}
 use Rattle.peers.specs.Names.{Keeps as KeepsNames}
 use Rattle.starting.proofs.Laws.{enlisted-none, enlisted-more, enlisted}
 

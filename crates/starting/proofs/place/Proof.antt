@@ -8,7 +8,7 @@ use lib.ListN.{getD}
 use Rattle.starting.proofs.place.Statement.{statement}
 use Rattle.starting.proofs.place.Tie as tie
 use borrow.Author.Count.{below-none, below-more}
-use Rattle.strings.specs.Strings.{string}
+use Rattle.distinct.specs.Distinct.{string}
 
 abbrev Inv-loop : tie.InvT-loop
 Inv-loop ats lens bytes n name i₀ i = (i ≤ n) × ((k : ℕ) → k < i → string ats lens bytes k ≡ name → ⊥)

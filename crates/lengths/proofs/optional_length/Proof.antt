@@ -1,11 +1,11 @@
--- `options::optional_length` meets its contract.
+-- `lengths::optional_length` meets its contract.
 -- Assumes nothing.
 use mathlib.Core.Path.{refl}
 use Prim.Native.Nat.{_-_}
 use native.Mathlib.Omega.{arith}
 use borrow.Author.Needs.{needs}
-use Rattle.options.proofs.optional_length.Statement.{statement}
-use Rattle.options.proofs.optional_length.Tie as tie
+use Rattle.lengths.proofs.optional_length.Statement.{statement}
+use Rattle.lengths.proofs.optional_length.Tie as tie
 use Rattle.format.proofs.Clear.{length-counted}
 
 add-result : tie.Need-add-result

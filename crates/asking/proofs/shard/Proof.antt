@@ -1,4 +1,4 @@
--- `directing::shard` meets its contract.
+-- `asking::shard` meets its contract.
 -- Assumes nothing.
 use mathlib.Core.Path.{_≡_, refl}
 use mathlib.Core.List.{List, _++_}
@@ -6,8 +6,8 @@ use Prim.Native.Nat.{ℕ, _+_, _-_, _≤_, _<_}
 use native.Mathlib.Omega.{arith}
 use borrow.Author.Needs.{needs}
 use lib.ListN.{length, length-append}
-use Rattle.directing.proofs.shard.Statement.{statement}
-use Rattle.directing.proofs.shard.Tie as tie
+use Rattle.asking.proofs.shard.Statement.{statement}
+use Rattle.asking.proofs.shard.Tie as tie
 use Rattle.format.specs.Number.{width, numbers}
 use Rattle.format.specs.Format.{number, maybe, pair, encode, counted}
 use Rattle.memory.proofs.Copies.{copied-then}

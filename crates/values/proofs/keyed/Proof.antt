@@ -1,12 +1,12 @@
--- `fields::keyed` meets its contract.
+-- `values::keyed` meets its contract.
 -- Assumes nothing.
 use Prim.Native.Nat.{_-_}
 use native.Mathlib.Omega.{arith}
 use borrow.Author.Needs.{needs}
-use Rattle.fields.proofs.keyed.Statement.{statement}
-use Rattle.fields.proofs.keyed.Tie as tie
+use Rattle.values.proofs.keyed.Statement.{statement}
+use Rattle.values.proofs.keyed.Tie as tie
 use Rattle.format.proofs.Answers.{number-as}
-use Rattle.fields.proofs.Answers.{value-as}
+use Rattle.values.proofs.Answers.{value-as}
 use Rattle.format.proofs.Reading.{pair-found, pair-first, pair-second}
 
 number-requires : tie.Need-number-requires

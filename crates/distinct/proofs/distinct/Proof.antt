@@ -1,4 +1,4 @@
--- `strings::distinct` meets its contract. The loop's invariant: no string passed is equal to one before it. The measure is what is left.
+-- `distinct::distinct` meets its contract. The loop's invariant: no string passed is equal to one before it. The measure is what is left.
 -- Assumes nothing.
 use mathlib.Core.Path.{_≡_, sym}
 use mathlib.Core.Bool.{true≢false, false≢true}
@@ -10,10 +10,11 @@ use borrow.Author.Needs.{needs}
 use borrow.Author.Tests.{not-true, not-false}
 use borrow.Author.Count.{below-none, below-more}
 use lib.ListN.{length, getD}
-use Rattle.strings.specs.Strings.{string, WellFormed}
+use Rattle.strings.specs.Strings.{WellFormed}
+use Rattle.distinct.specs.Distinct.{string}
 use Rattle.columns.proofs.Cases.{lt-or-ge}
-use Rattle.strings.proofs.distinct.Statement.{statement}
-use Rattle.strings.proofs.distinct.Tie as tie
+use Rattle.distinct.proofs.distinct.Statement.{statement}
+use Rattle.distinct.proofs.distinct.Tie as tie
 
 abbrev Inv-loop : tie.InvT-loop
 Inv-loop ats lens m bytes i₀ i =

@@ -1,10 +1,10 @@
--- `fields::value` meets its contract.
+-- `values::value` meets its contract.
 -- Assumes nothing.
 use Prim.Native.Nat.{_-_}
 use native.Mathlib.Omega.{arith}
 use borrow.Author.Needs.{needs}
-use Rattle.fields.proofs.value.Statement.{statement}
-use Rattle.fields.proofs.value.Tie as tie
+use Rattle.values.proofs.value.Statement.{statement}
+use Rattle.values.proofs.value.Tie as tie
 use Rattle.format.proofs.Answers.{text-as}
 use Rattle.format.proofs.Reading.{maybe-none, maybe-some, maybe-empty, maybe-other, maybe-lacks}
 

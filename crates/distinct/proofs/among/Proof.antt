@@ -1,4 +1,4 @@
--- `strings::among` meets its contract. The loop's invariant: none of the strings passed is the name. The measure is what is left.
+-- `distinct::among` meets its contract. The loop's invariant: none of the strings passed is the name. The measure is what is left.
 -- Assumes nothing.
 use mathlib.Core.Path.{_≡_}
 use mathlib.Core.Bool.{true≢false, false≢true}
@@ -9,9 +9,10 @@ use borrow.Author.Needs.{needs}
 use borrow.Author.Tests.{not-true, not-false}
 use borrow.Author.Count.{below-none, below-more}
 use lib.ListN.{length, getD}
-use Rattle.strings.specs.Strings.{string, WellFormed}
-use Rattle.strings.proofs.among.Statement.{statement}
-use Rattle.strings.proofs.among.Tie as tie
+use Rattle.strings.specs.Strings.{WellFormed}
+use Rattle.distinct.specs.Distinct.{string}
+use Rattle.distinct.proofs.among.Statement.{statement}
+use Rattle.distinct.proofs.among.Tie as tie
 
 abbrev Inv-loop : tie.InvT-loop
 Inv-loop ats lens m bytes name i₀ i = (i ≤ m) × WellFormed ats lens m (length bytes) × ((k : ℕ) → k < i → string ats lens bytes k ≡ name → ⊥)

@@ -1,11 +1,11 @@
--- `options::bound_length` meets its contract.
+-- `lengths::bound_length` meets its contract.
 -- Assumes nothing.
 use mathlib.Core.Path.{refl}
 use Prim.Native.Nat.{_-_}
 use native.Mathlib.Omega.{arith}
 use borrow.Author.Needs.{needs}
-use Rattle.options.proofs.bound_length.Statement.{statement}
-use Rattle.options.proofs.bound_length.Tie as tie
+use Rattle.lengths.proofs.bound_length.Statement.{statement}
+use Rattle.lengths.proofs.bound_length.Tie as tie
 use Rattle.format.specs.Number.{width}
 use Rattle.format.proofs.Numbers.{length-digits}
 
