@@ -1,4 +1,4 @@
--- `confirming::clear` meets its contract. The loop's invariant: the places passed are cleared, the others as they were. The measure is what is left.
+-- `clearing::clear` meets its contract. The loop's invariant: the places passed are cleared, the others as they were. The measure is what is left.
 -- Assumes nothing.
 use mathlib.Core.Path.{sym, subst}
 use Rattle.delivery.specs.Memory.{capacity}
@@ -7,10 +7,10 @@ use mathlib.Core.Logic.{⊎-elim}
 use Prim.Native.Nat.{ℕ, _+_, _-_, _<_}
 use native.Mathlib.Omega.{arith}
 use borrow.Author.Needs.{needs}
-use Rattle.confirming.proofs.Laws.{Passed, passed-none, passed-all, passed-kept, passed-freed}
+use Rattle.clearing.proofs.Laws.{Passed, passed-none, passed-all, passed-kept, passed-freed}
 use lib.ListN.{length}
-use Rattle.confirming.proofs.clear.Statement.{statement}
-use Rattle.confirming.proofs.clear.Tie as tie
+use Rattle.clearing.proofs.clear.Statement.{statement}
+use Rattle.clearing.proofs.clear.Tie as tie
 
 abbrev Inv-loop : tie.InvT-loop
 Inv-loop places₀ mark x p₀ places p = Passed places₀ mark x p places
