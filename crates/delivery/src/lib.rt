@@ -3,9 +3,9 @@
 // what is known of peers, specs/Memory.antt how memory keeps it, and specs/Answers.antt what each
 // function answers; proofs/Laws.antt has the laws that callers go by. Nothing is asked of a caller.
 //
-// Here memory is made ready, read, and told of a message that was taken and of a new peer. `posting`
-// finds a place for a message and lets it wait there, `confirming` takes an Ack, `resending` goes through
-// all that waits.
+// Here memory is made ready, read, and told of a message that was taken and of a new peer. `picking` finds
+// a place and a number for a message, `posting` lets it wait there, `confirming` takes an Ack, `resending`
+// goes through all that waits.
 ghost use mathlib.Core.Path.{_≡_};
 ghost use lib.ListN.{length, getD};
 ghost use Prim.Native.Nat.{ℕ};

@@ -8,7 +8,7 @@ use limits::ENTRIES_LIMIT;
 use message::BodyView;
 use message::ListView;
 use peers::Peer;
-use posting::Vacancy;
+use picking::Vacancy;
 ghost use mathlib.Core.Path.{_≡_};
 ghost use Rattle.rooms.specs.Answers.{Tested};
 ghost use Rattle.rooms.specs.Inner.{Vacant, heard, ShardTested, DelegateTested};
@@ -86,7 +86,7 @@ fn without_place(room: bool) -> Verdict
 fn vacant(places: &[u64]) -> Verdict
     ensures { λ r. ⌜ Vacant (now (places .entry)) (r .room) ⌝ }
 {
-    match posting::free(places) {
+    match picking::free(places) {
         Vacancy::At(p) => Verdict {
             room: true,
             place: p,

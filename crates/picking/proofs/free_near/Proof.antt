@@ -1,9 +1,9 @@
--- `posting::free_near` meets its contract: a hint is believed only where its place is free.
+-- `picking::free_near` meets its contract: a hint is believed only where its place is free.
 -- Assumes nothing.
 use native.Mathlib.Omega.{arith}
 use borrow.Author.Needs.{needs}
-use Rattle.posting.proofs.free_near.Statement.{statement}
-use Rattle.posting.proofs.free_near.Tie as tie
+use Rattle.picking.proofs.free_near.Statement.{statement}
+use Rattle.picking.proofs.free_near.Tie as tie
 
 free-requires : tie.Need-free-requires
 free-requires c κs = search needs

@@ -1,10 +1,10 @@
--- `posting::pick` meets its contract.
+-- `picking::pick` meets its contract.
 -- Assumes nothing.
 use native.Mathlib.Omega.{arith}
 use borrow.Author.Needs.{needs}
-use Rattle.posting.proofs.pick.Statement.{statement}
-use Rattle.posting.proofs.pick.Tie as tie
-use Rattle.posting.proofs.Laws.{free-as}
+use Rattle.picking.proofs.pick.Statement.{statement}
+use Rattle.picking.proofs.pick.Tie as tie
+use Rattle.picking.proofs.Laws.{free-as}
 
 counts-of-requires : tie.Need-counts-of-requires
 counts-of-requires c κs = search needs

@@ -1,11 +1,11 @@
--- `posting::free` meets its contract. The loop's invariant: every place passed is taken. The measure is what is left.
+-- `picking::free` meets its contract. The loop's invariant: every place passed is taken. The measure is what is left.
 -- Assumes nothing.
 use Prim.Native.Nat.{ℕ, _-_, _<_}
 use native.Mathlib.Omega.{arith}
 use borrow.Author.Needs.{needs}
 use lib.ListN.{length}
-use Rattle.posting.proofs.free.Statement.{statement}
-use Rattle.posting.proofs.free.Tie as tie
+use Rattle.picking.proofs.free.Statement.{statement}
+use Rattle.picking.proofs.free.Tie as tie
 use borrow.Author.Count.{below-none, below-more}
 use Rattle.delivery.specs.Memory.{markAt}
 
