@@ -11,7 +11,7 @@ use lib.Seq.{getD-set-same, getD-set-other, getD-drop}
 use Rattle.columns.proofs.Cases.{lt-or-ge, eq-or-ne}
 use Rattle.memory.specs.Bytes.{part}
 use Rattle.delivery.specs.Post.{Post, last, confirmed}
-use Rattle.delivery.specs.Memory.{Holding, Keeps, acknowledgedOf, lastOf, capacity, markAt, numberAt, lengthAt, datagramAt}
+use Rattle.delivery.specs.Memory.{Holding, Keeps, acknowledgedOf, lastOf, capacity, markAt, numberAt, datagramAt}
 use Rattle.delivery.proofs.Laws.{at-same, at-other, at-all}
 use Rattle.clearing.specs.Answers.{Cleared}
 use Rattle.confirming.specs.Answers.{One, Freed, Ahead}

@@ -25,7 +25,7 @@ use Rattle.peers.specs.declared.Added.the-variants.{At, Full, TooLong}
 use Rattle.peers.specs.Names.{Keeps as KeepsNames, AfterAdd, joined, places as namePlaces}
 use Rattle.delivery.specs.Post.{nothing}
 use Rattle.delivery.specs.Memory.{Keeps as KeepsPost, capacity}
-use Rattle.delivery.specs.Answers.{Shape as MailShape, AfterStart as PostStarted}
+use Rattle.opening.specs.Answers.{Shape as MailShape, AfterStart as PostStarted}
 use Rattle.protocol.specs.State.{start, fresh}
 use Rattle.hosts.specs.declared.State.{State}
 use Rattle.hosts.specs.Memory.{Memory, memory}

@@ -75,7 +75,7 @@ pub fn start(
     }
     let bounds = first_owns(lows, owners);
     records::start(keys, slots, lens, values);
-    delivery::start(counts, places, mail, size);
+    opening::start(counts, places, mail, size);
     enlist(name_lens, names, width, ats, address_lens, bytes, n);
     Started::Now(serving::begun(own, n, width, size, bounds))
 }

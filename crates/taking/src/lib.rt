@@ -34,7 +34,7 @@ pub fn take(
     let Seat::At(i, peers) = seated(name_lens, names, counts, k.width, k.peers, from, hint) else {
         return Taken::NoRoom;
     };
-    delivery::take(counts, i, number);
+    counting::take(counts, i, number);
     memory::copy(s, room, 0);
     Taken::Now(State {
         me: k.me,
@@ -95,7 +95,7 @@ fn join(
     let added = peers::add(name_lens, names, width, n, from);
     match added {
         Added::At(i) => {
-            delivery::join(counts, n);
+            counting::join(counts, n);
             Seat::At(i, n + 1)
         }
         Added::Full => Seat::Full,

@@ -1,19 +1,17 @@
--- `delivery::clear` meets its contract.
+-- `opening::clear` meets its contract.
 -- Assumes nothing.
-use mathlib.Core.Path.{_≡_, refl, sym, ap, _∙_}
-use mathlib.Core.List.{List, [], _∷_, _++_}
+use mathlib.Core.Path.{_≡_, refl, ap, _∙_}
 use mathlib.Core.Logic.{⊎-elim}
-use Prim.Native.Nat.{ℕ, suc, _+_, _-_, _≤_, _<_}
+use Prim.Native.Nat.{ℕ, _-_, _<_}
 use native.Mathlib.Omega.{arith}
-use native.Mathlib.Numerals.{add-one}
 use borrow.Author.Needs.{needs}
 use lib.Seq.{getD-set-same, getD-set-other}
 use Rattle.columns.proofs.Cases.{lt-or-ge, eq-or-ne}
-use lib.ListN.{List·getD-eq-default, length, take, drop, getD, set, length-set}
-use Rattle.delivery.proofs.clear.Statement.{statement}
-use Rattle.delivery.proofs.clear.Tie as tie
-use Rattle.delivery.proofs.clear.Reads as reads
-use Rattle.delivery.proofs.clear.Lts as lts
+use lib.ListN.{List·getD-eq-default, length, getD, set, length-set}
+use Rattle.opening.proofs.clear.Statement.{statement}
+use Rattle.opening.proofs.clear.Tie as tie
+use Rattle.opening.proofs.clear.Reads as reads
+use Rattle.opening.proofs.clear.Lts as lts
 
 abbrev Inv-loop : tie.InvT-loop
 Inv-loop column₀ i₀ column i = (length column ≡ length column₀) × ((k : ℕ) → k < i → getD column k 0 ≡ 0)

@@ -1,4 +1,4 @@
--- `delivery::join` meets its contract.
+-- `counting::join` meets its contract.
 -- Assumes nothing.
 use mathlib.Core.Path.{_≡_, refl, sym, _∙_}
 use Prim.Native.Nat.{_*_, _+_, _-_, _<_}
@@ -6,10 +6,10 @@ use native.Mathlib.Omega.{arith}
 use borrow.Author.Needs.{needs}
 use lib.ListN.{length, getD, set, length-set}
 use mathlib.Core.Bool.{false≢true}
-use Rattle.delivery.proofs.join.Statement.{statement}
-use Rattle.delivery.proofs.join.Tie as tie
+use Rattle.counting.proofs.join.Statement.{statement}
+use Rattle.counting.proofs.join.Tie as tie
 use lib.Seq.{getD-set-same, getD-set-other}
 use Rattle.delivery.proofs.Laws.{keeps-joined}
 
 returns : tie.Need-returns
 returns c =

@@ -1,12 +1,11 @@
--- `delivery::take` meets its contract.
+-- `counting::take` meets its contract.
 -- Assumes nothing.
 use Prim.Native.Nat.{_-_}
 use native.Mathlib.Omega.{arith}
 use borrow.Author.Needs.{needs}
-use lib.ListN.{take}
-use Rattle.delivery.proofs.take.Statement.{statement}
-use Rattle.delivery.proofs.take.Tie as tie
+use Rattle.counting.proofs.take.Statement.{statement}
+use Rattle.counting.proofs.take.Tie as tie
 use Rattle.delivery.proofs.Laws.{keeps-took}
 
 mul-counts : tie.Need-mul-counts
 mul-counts c = search needs

@@ -1,15 +1,15 @@
--- `delivery::start` meets its contract.
+-- `opening::start` meets its contract.
 -- Assumes nothing.
 use mathlib.Core.Path.{_≡_, refl, sym, subst}
 use native.Mathlib.Omega.{arith}
 use borrow.Author.Needs.{needs}
-use Rattle.delivery.proofs.start.Statement.{statement}
-use Rattle.delivery.proofs.start.Tie as tie
+use Rattle.opening.proofs.start.Statement.{statement}
+use Rattle.opening.proofs.start.Tie as tie
 use mathlib.Core.Bool.{true≢false, false≢true}
 use Prim.Native.Nat.{ℕ, _*_, _/_, _≤_, _<_}
 use lib.ListN.{length}
 use native.Mathlib.Nat.{le-div-iff-mul-le}
 use Rattle.delivery.proofs.Laws.{keeps-nothing}
 
 returns : tie.Need-returns
 returns c =
