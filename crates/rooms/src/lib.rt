@@ -149,7 +149,7 @@ fn delegate(
     ensures { λ r. ⌜ DelegateTested (now (lows .entry)) (now (owners .entry)) (now (keys .entry)) (now (slots .entry))
         (now («name_lens» .entry)) (now (names .entry)) k (now (from .entry)) (now (s .entry)) lo hi list r ⌝ }
 {
-    let Peer::Is(i) = peers::find(name_lens, names, k.width, k.hosts, from) else {
+    let Peer::Is(i) = finding::find(name_lens, names, k.width, k.hosts, from) else {
         return true;
     };
     let m = list.count as usize;

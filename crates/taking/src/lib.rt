@@ -70,7 +70,7 @@ fn seated(
     ensures { λ r. ⌜ AfterSeat (now («name_lens» .entry)) (now (names .entry)) (now (counts .entry)) width n (now (from .entry)) r
         (now («name_lens» .exit)) (now (names .exit)) (now (counts .exit)) ⌝ }
 {
-    let found = peers::find_near(name_lens, names, width, n, from, hint);
+    let found = finding::find_near(name_lens, names, width, n, from, hint);
     match found {
         Peer::Is(i) => Seat::At(i, n),
         Peer::Unknown => join(name_lens, names, counts, width, n, from),

@@ -1,12 +1,12 @@
--- `peers::apart` meets its contract.
+-- `finding::apart` meets its contract.
 -- Assumes nothing.
 use mathlib.Core.Bool.{false≢true}
 use borrow.Author.Needs.{needs}
 use borrow.Author.Tests.{eqb-false, not-true}
 use Rattle.format.proofs.Answers.{number-as}
-use Rattle.peers.proofs.Laws.{numbers-differ}
-use Rattle.peers.proofs.apart.Statement.{statement}
-use Rattle.peers.proofs.apart.Tie as tie
+use Rattle.finding.proofs.Laws.{numbers-differ}
+use Rattle.finding.proofs.apart.Statement.{statement}
+use Rattle.finding.proofs.apart.Tie as tie
 
 returns : tie.Need-returns
 returns c = λ t e. absurd (false≢true t)

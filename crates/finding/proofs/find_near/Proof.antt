@@ -1,13 +1,13 @@
--- `peers::find_near` meets its contract: a hint is believed only where the address stands at its place.
+-- `finding::find_near` meets its contract: a hint is believed only where the address stands at its place.
 -- Assumes nothing.
 use mathlib.Core.Path.{sym, _∙_}
 use Prim.Native.Nat.{_<_}
 use native.Mathlib.Omega.{arith}
 use borrow.Author.Needs.{needs}
 use lib.ListN.{length}
-use Rattle.peers.proofs.find_near.Statement.{statement}
-use Rattle.peers.proofs.find_near.Tie as tie
+use Rattle.finding.proofs.find_near.Statement.{statement}
+use Rattle.finding.proofs.find_near.Tie as tie
 use Rattle.peers.proofs.Laws.{place-fits}
 
 room-requires : tie.Need-room-requires
 room-requires c κs = search needs

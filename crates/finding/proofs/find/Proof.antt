@@ -1,17 +1,17 @@
--- `peers::find` meets its contract.
+-- `finding::find` meets its contract.
 -- Assumes nothing.
 use mathlib.Core.Path.{_≡_, sym, _∙_, subst}
 use Prim.Native.Nat.{ℕ, suc, _-_, _≤_, _<_, _*_, min}
 use native.Mathlib.Omega.{arith}
 use borrow.Author.Needs.{needs}
 use lib.ListN.{length, getD}
-use Rattle.peers.proofs.find.Statement.{statement}
-use Rattle.peers.proofs.find.Tie as tie
+use Rattle.finding.proofs.find.Statement.{statement}
+use Rattle.finding.proofs.find.Tie as tie
 use Rattle.memory.specs.Bytes.{part}
 use Rattle.peers.proofs.Laws.{place-fits, keeps-places}
 use native.Mathlib.Nat.{le-min}
 use borrow.Author.Count.{below-more}
 use Rattle.peers.specs.Names.{places}
 
 abbrev Inv-loop : tie.InvT-loop
 Inv-loop lens names width n address end i₀ i = (i ≤ end) × ((k : ℕ) → k < i → getD lens k 0 ≤ width → part names (k * width) (getD lens k 0) ≡ address → ⊥)

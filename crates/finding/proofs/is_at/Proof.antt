@@ -1,11 +1,11 @@
--- `peers::is_at` meets its contract.
+-- `finding::is_at` meets its contract.
 -- Assumes nothing.
 use mathlib.Core.Path.{sym, _∙_}
 use Prim.Native.Nat.{_-_, _*_}
 use native.Mathlib.Omega.{arith}
 use borrow.Author.Needs.{needs}
-use Rattle.peers.proofs.is_at.Statement.{statement}
-use Rattle.peers.proofs.is_at.Tie as tie
+use Rattle.finding.proofs.is_at.Statement.{statement}
+use Rattle.finding.proofs.is_at.Tie as tie
 use mathlib.Core.Bool.{false≢true}
 use Rattle.memory.proofs.Parts.{part-taken}
 
