@@ -17,7 +17,7 @@ pub fn ack(
     ensures { λ r. ⌜ AfterAck (now («name_lens» .entry)) (now (names .entry)) (now (counts .entry)) (now (places .entry)) k (now (from .entry)) number r
         (now (counts .exit)) (now (places .exit)) ⌝ }
 {
-    let found = peers::find(name_lens, names, k.width, k.peers, from);
+    let found = finding::find(name_lens, names, k.width, k.peers, from);
     let Peer::Is(i) = found else {
         return false;
     };

@@ -40,7 +40,7 @@ fn fresh(lens: &[u64], names: &[u8], width: usize, i: usize) -> bool
     }
     let from = i * width;
     let to = from + len;
-    match peers::find(lens, names, width, i, &names[from..to]) {
+    match finding::find(lens, names, width, i, &names[from..to]) {
         Peer::Is(_) => false,
         Peer::Unknown => true,
     }

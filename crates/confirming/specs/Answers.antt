@@ -3,23 +3,16 @@
 use mathlib.Core.Path.{_≡_}
 use mathlib.Core.List.{List}
 use mathlib.Core.Logic.{_⊎_}
-use Prim.Native.Nat.{ℕ, _≤_, _<_}
+use Prim.Native.Nat.{ℕ, _<_}
 use lib.ListN.{length}
 use Rattle.delivery.specs.Post.{Post, confirmed}
 use Rattle.delivery.specs.Memory.{Keeps, capacity, markAt, numberAt, lengthAt}
+use Rattle.clearing.specs.Answers.{Cleared}
 
 -- the messages up to the number x have arrived at the peer
 pub record AfterConfirm (counts places : List ℕ) (peer x : ℕ) (counts′ places′ : List ℕ) : Type 0 where
   pub is : (mail : List ℕ) (size n : ℕ) (P : Post) → Keeps counts places mail size n P → peer < n → P .acknowledged peer < x
       → Keeps counts′ places′ mail size n (confirmed peer x P)
-
--- exactly the places with that mark and a number up to x are free now
-pub record Cleared (places : List ℕ) (mark x : ℕ) (places′ : List ℕ) : Type 0 where
-  pub long : length places′ ≡ length places
-  pub gone : (p : ℕ) → p < capacity places → markAt places p ≡ mark → numberAt places p ≤ x → markAt places′ p ≡ 0
-  pub other : (p : ℕ) → p < capacity places → (markAt places p ≡ mark → x < numberAt places p) → markAt places′ p ≡ markAt places p
-  pub numbers : (p : ℕ) → p < capacity places → numberAt places′ p ≡ numberAt places p
-  pub lengths : (p : ℕ) → p < capacity places → lengthAt places′ p ≡ lengthAt places p
 
 -- p is the one place that is free now
 pub record One (places : List ℕ) (mark x p : ℕ) (places′ : List ℕ) : Type 0 where

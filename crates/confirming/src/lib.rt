@@ -1,6 +1,6 @@
 // An Ack: what was sent to a peer has arrived, up to a number. Exactly those messages stop waiting.
 use delivery::WORDS;
-ghost use Rattle.confirming.specs.Answers.{AfterConfirm, Cleared, Freed, Released};
+ghost use Rattle.confirming.specs.Answers.{AfterConfirm, Freed, Released};
 
 // The messages up to that number have arrived at the peer. A number above the last one sent counts too:
 // nothing waits then, and the next message gets the number after it.
@@ -29,7 +29,7 @@ fn release(places: &mut [u64], mark: u64, before: u64, x: u64)
             return;
         }
     }
-    clear(places, mark, x);
+    clearing::clear(places, mark, x);
 }
 
 // Frees the first place with that mark and the number x.
@@ -45,20 +45,5 @@ fn free(places: &mut [u64], mark: u64, x: u64)
             }
         }
         at += 1;
-    }
-}
-
-// Frees the places with that mark and a number up to x.
-fn clear(places: &mut [u64], mark: u64, x: u64)
-    ensures { λ _. ⌜ Cleared (now (places .entry)) mark x (now (places .exit)) ⌝ }
-{
-    let mut p: usize = 0;
-    while p < places.len() / WORDS {
-        if places[p * WORDS] == mark {
-            if places[p * WORDS + 1] <= x {
-                places[p * WORDS] = 0;
-            }
-        }
-        p += 1;
     }
 }

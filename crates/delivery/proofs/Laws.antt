@@ -3,14 +3,14 @@
 use mathlib.Core.Path.{_≡_, refl, sym, ap, _∙_, subst}
 use mathlib.Core.Logic.{⊎-elim}
 use mathlib.Core.List.{List, []}
-use Prim.Native.Nat.{ℕ, zero, suc, _+_, _*_, _/_, _≤_, _<_}
+use Prim.Native.Nat.{ℕ, suc, _+_, _*_, _≤_, _<_}
 use native.Mathlib.Omega.{arith}
 use lib.ListN.{length, getD, set, length-set}
 use lib.Seq.{getD-set-same, getD-set-other}
 use borrow.Author.Tests.{ne-eqb, eq-eqb}
-use Rattle.columns.proofs.Cases.{lt-or-ge, eq-or-ne}
+use Rattle.columns.proofs.Cases.{eq-or-ne}
 use Rattle.delivery.specs.Post.{Post, at, nothing, last, took, joined}
-use Rattle.delivery.specs.Memory.{receivedOf, acknowledgedOf, lastOf, capacity, markAt, numberAt, lengthAt, datagramAt, Holding, Keeps}
+use Rattle.delivery.specs.Memory.{receivedOf, acknowledgedOf, lastOf, capacity, markAt, numberAt, datagramAt, Keeps}
 
 -- ---- a function changed for one peer
 

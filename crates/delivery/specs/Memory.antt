@@ -60,6 +60,11 @@ pub record Keeps (counts places mail : List ℕ) (size n : ℕ) (P : Post) : Typ
   pub short : (p : ℕ) → p < capacity places → 0 < markAt places p → lengthAt places p ≤ size
   pub holding : Holding (capacity places) (markAt places) (numberAt places) (datagramAt places mail size) n P
 
+-- place p is there, and free
+pub record Open (places : List ℕ) (p : ℕ) : Type 0 where
+  pub within : p < capacity places
+  pub free : markAt places p ≡ 0
+
 -- the datagram stands in place p, for peer i, with the number x
 pub record Standing (places mail : List ℕ) (size p i x : ℕ) (bytes : List ℕ) : Type 0 where
   pub within : p < capacity places

@@ -1,7 +1,5 @@
 -- A list of entries as it is handed in, and what a look at it answers.
 -- Assumes nothing.
-use mathlib.Core.Path.{_≡_}
-use mathlib.Core.Bool.{Bool, true, false}
 use mathlib.Core.List.{List}
 use Prim.Native.Nat.{ℕ, _+_, _≤_, _<_}
 use lib.ListN.{length, getD}
@@ -27,8 +25,3 @@ CheckCases Bad ks ats ls bytes m = Entered ks ats ls bytes m → ⊥
 
 pub record Checked (ks ats ls bytes : List ℕ) (m : ℕ) (r : Look) : Type 0 where
   pub is : CheckCases r ks ats ls bytes m
-
--- none of the m values is too long, or one is
-pub record Short (ls : List ℕ) (m : ℕ) (r : Bool) : Type 0 where
-  pub yes : r ≡ true → (i : ℕ) → i < m → getD ls i 0 ≤ valueMax
-  pub no : r ≡ false → (i : ℕ) × (i < m) × (valueMax < getD ls i 0)

@@ -1,7 +1,7 @@
 // A list of entries as it is handed in, in columns of m places: is it well formed, and no value too long? It stands apart
 // from `entries`, which replaces a range by such a list, so that a change in one need not prove the other again.
 use limits::VALUE_MAX;
-ghost use Rattle.entered.specs.Entered.{Checked, Short};
+ghost use Rattle.entered.specs.Entered.{Checked};
 
 // What a look at the list finds.
 pub enum Look {
@@ -20,25 +20,8 @@ pub fn check(ks: &[u64], ats: &[u64], ls: &[u64], m: usize, bytes: &[u8]) -> Loo
     if !strings::inside(ats, ls, m, bytes.len()) {
         return Look::Bad;
     }
-    if !short(ls, m) {
+    if !strings::none_longer(ls, m, VALUE_MAX) {
         return Look::Long;
     }
     Look::Fine
-}
-
-// Is none of the m values too long?
-fn short(ls: &[u64], m: usize) -> bool
-    ensures { λ r. ⌜ Short (now (ls .entry)) m r ⌝ }
-{
-    let mut i: usize = 0;
-    while i < m {
-        if ls.len() <= i {
-            return true;
-        }
-        if VALUE_MAX < ls[i] as usize {
-            return false;
-        }
-        i += 1;
-    }
-    true
 }

@@ -20,9 +20,9 @@ use Rattle.delegation.specs.Map.{Owner}
 use Rattle.decoding.specs.Decode.{same}
 use Rattle.decoding.proofs.Decided.{same-refl}
 use Rattle.records.proofs.Laws.{keeps-short}
-use Rattle.posting.specs.declared.Picked.{Picked}
-use Rattle.posting.specs.declared.Picked.the-variants.{Place, NoNumber, NoPlace}
-use Rattle.posting.specs.Answers.{AfterPick}
+use Rattle.picking.specs.declared.Picked.{Picked}
+use Rattle.picking.specs.declared.Picked.the-variants.{Place, NoNumber, NoPlace}
+use Rattle.picking.specs.Answers.{AfterPick}
 use Rattle.protocol.specs.State.{Host, Letter}
 use Rattle.protocol.specs.Owners.{ownerOf}
 use Rattle.protocol.specs.Records.{look}

@@ -4,7 +4,7 @@
 use hosts::Done;
 use hosts::Processed;
 use hosts::State;
-use posting::Picked;
+use picking::Picked;
 use records::Found;
 ghost use Rattle.hosts.specs.Memory.{memory};
 ghost use Rattle.getting.specs.Answers.{AfterGet, AfterRespond, AfterValue};
@@ -31,7 +31,7 @@ pub fn get(
         k key r
         (memory (now (lows .entry)) (now (owners .entry)) (now (keys .entry)) (now (slots .entry)) (now (lens .entry)) (now (values .entry)) (now («name_lens» .entry)) (now (names .entry)) (now (counts .exit)) (now (places .exit)) (now (mail .exit))) ⌝ }
 {
-    let picked = posting::pick(counts, places, k.from, hint);
+    let picked = picking::pick(counts, places, k.from, hint);
     match picked {
         Picked::Place(p, number) => respond(
             lows,

@@ -22,9 +22,9 @@ use Rattle.delegation.specs.Map.{room}
 use Rattle.delegation.proofs.Laws.{keeps-cong, takes-unique}
 use Rattle.peers.specs.declared.Peer.{Peer}
 use Rattle.peers.specs.declared.Peer.the-variants.{Is, Unknown}
-use Rattle.posting.specs.declared.Picked.{Picked}
-use Rattle.posting.specs.declared.Picked.the-variants.{Place, NoNumber, NoPlace}
-use Rattle.posting.specs.Answers.{AfterPick}
+use Rattle.picking.specs.declared.Picked.{Picked}
+use Rattle.picking.specs.declared.Picked.the-variants.{Place, NoNumber, NoPlace}
+use Rattle.picking.specs.Answers.{AfterPick}
 use Rattle.sending.specs.Answers.{AfterSend}
 use Rattle.protocol.specs.Records.{inRange}
 use Rattle.protocol.specs.Owners.{giving}

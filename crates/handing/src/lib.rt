@@ -8,7 +8,7 @@ use hosts::State;
 use keys::Bound;
 use limits::ENTRIES_LIMIT;
 use peers::Peer;
-use posting::Picked;
+use picking::Picked;
 ghost use Rattle.handing.specs.Answers.{AfterShard};
 ghost use Rattle.handing.specs.Inner.{AfterOffer, AfterHand};
 
@@ -156,7 +156,7 @@ fn hand(
         (now (ks .entry)) (now (ats .entry)) (now (ls .entry)) m r (now (lows .exit)) (now (owners .exit)) (now (keys .exit))
         (now (slots .exit)) (now (counts .exit)) (now (places .exit)) (now (mail .exit)) ⌝ }
 {
-    match posting::pick(counts, places, peer, hint) {
+    match picking::pick(counts, places, peer, hint) {
         Picked::Place(p, number) => {
             let sent = transferring::delegate(
                 name_lens,

@@ -16,7 +16,7 @@ pub struct Heard {
 pub fn last(name_lens: &[u64], names: &[u8], counts: &[u64], k: State, from: &[u8]) -> Heard
     ensures { λ r. ⌜ Last (now («name_lens» .entry)) (now (names .entry)) (now (counts .entry)) k (now (from .entry)) (r .number) ⌝ }
 {
-    let found = peers::find(name_lens, names, k.width, k.peers, from);
+    let found = finding::find(name_lens, names, k.width, k.peers, from);
     match found {
         Peer::Is(i) => Heard {
             number: delivery::counts_of(counts, i).received,

@@ -2,24 +2,17 @@
 -- Assumes nothing.
 use mathlib.Core.Path.{_≡_, refl, sym, ap, ap₂, _∙_, subst}
 use mathlib.Core.Logic.{⊎-elim}
-use mathlib.Core.Bool.{cond}
 use mathlib.Core.List.{List}
-use Prim.Native.Nat.{ℕ, suc, min, _+_, _-_, _*_, _/_, _≤_, _<_}
+use Prim.Native.Nat.{ℕ, suc, _+_, _-_, _*_, _≤_, _<_}
 use native.Mathlib.Nat.{suc-mul, mul-le-mul-right, le-div-iff-mul-le, le-min}
 use native.Mathlib.Numerals.{add-one}
 use native.Mathlib.Omega.{arith}
-use lib.ListN.{length, drop, getD, set, length-set}
+use lib.ListN.{length, getD, set, length-set}
 use lib.Seq.{getD-set-same, getD-set-other}
-use lib.Dec.{eqb}
 use borrow.Author.Tests.{ne-eqb, eq-eqb}
 use Rattle.memory.specs.Bytes.{part, placed}
 use Rattle.memory.proofs.Parts.{length-placed, placed-in, placed-before}
 use Rattle.columns.proofs.Cases.{lt-or-ge}
-use Rattle.format.specs.Number.{width}
-use Rattle.format.specs.Format.{number}
-use Rattle.format.specs.Answers.{ReadNumber}
-use Rattle.format.specs.declared.NumberRead.the-variants.{Is as IsNumber}
-use Rattle.format.proofs.Reading.{only}
 use Rattle.peers.specs.Names.{Keeps, places, joined}
 
 -- place i of r places of w bytes lies within the bytes that they take
@@ -87,10 +80,3 @@ module _ (lens names : List ℕ) (w n : ℕ) (N : ℕ → List ℕ) (a : List �
           (λ t. omega arith)
           (lt-or-ge j n))
           (lt-or-ge i n)
-
--- two strings whose last bytes are different numbers differ
-pub numbers-differ : (a b : List ℕ) (x y : ℕ) → ReadNumber a (length a - width) (IsNumber x) → ReadNumber b (length b - width) (IsNumber y)
-    → (x ≡ y → ⊥) → a ≡ b → ⊥
-numbers-differ a b x y A B n e =
-    let N = subst (λ (l : List ℕ). ReadNumber l (length l - width) (IsNumber y)) (sym e) B .is in
-    n (sym (only {f = number} (A .is) y (N .good) (drop (length a - width + width) a) (N .is) .0))

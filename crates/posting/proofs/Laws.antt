@@ -14,14 +14,8 @@ use Rattle.columns.proofs.Cases.{lt-or-ge, eq-or-ne}
 use Rattle.memory.specs.Bytes.{part, placed}
 use Rattle.memory.proofs.Parts.{length-placed, placed-in, placed-before, placed-after}
 use Rattle.delivery.specs.Post.{Post, last, next, posted}
-use Rattle.delivery.specs.Memory.{Holding, Keeps, Standing, lastOf, capacity, markAt, numberAt, lengthAt, datagramAt}
+use Rattle.delivery.specs.Memory.{Holding, Keeps, Open, Standing, lastOf, capacity, markAt, numberAt, lengthAt, datagramAt}
 use Rattle.delivery.proofs.Laws.{at-same, at-other}
-use Rattle.posting.specs.Answers.{Open, AfterFree}
-use Rattle.posting.specs.declared.Vacancy.{Vacancy}
-
--- what `free` says of its answer holds of an answer that is equal to it
-pub free-as : {places : List ℕ} {r s : Vacancy} → r ≡ s → AfterFree places r → AfterFree places s
-free-as {places} e h = subst (AfterFree places) e h
 
 -- ---- one more message waits
 

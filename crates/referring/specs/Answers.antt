@@ -4,7 +4,7 @@ use mathlib.Core.Path.{_≡_}
 use mathlib.Core.List.{List}
 use Prim.Native.Nat.{ℕ}
 use Rattle.delivery.specs.Post.{next}
-use Rattle.posting.specs.Answers.{Open}
+use Rattle.delivery.specs.Memory.{Open}
 use Rattle.protocol.specs.State.{Host, Letter}
 use Rattle.protocol.specs.Process.{redirecting}
 use Rattle.hosts.specs.declared.State.{State}

@@ -11,10 +11,10 @@ use Rattle.message.specs.declared.ValueView.{ValueView}
 use Rattle.message.specs.declared.ListView.{ListView}
 use Rattle.message.specs.declared.BodyView.{BodyView}
 use Rattle.message.specs.declared.BodyView.the-variants.{Get, Set, Reply, Redirect, Shard, Delegate}
-use Rattle.posting.specs.declared.Vacancy.{Vacancy}
-use Rattle.posting.specs.declared.Vacancy.the-variants.{At as Place, Nowhere}
-use Rattle.posting.specs.Answers.{AfterFree}
-use Rattle.posting.proofs.Laws.{free-as}
+use Rattle.picking.specs.declared.Vacancy.{Vacancy}
+use Rattle.picking.specs.declared.Vacancy.the-variants.{At as Place, Nowhere}
+use Rattle.picking.specs.Answers.{AfterFree}
+use Rattle.picking.proofs.Laws.{free-as}
 use Rattle.hosts.specs.declared.State.{State}
 use Rattle.hosts.specs.Memory.{memory}
 use Rattle.hosts.proofs.Totals.{free-place, all-taken}

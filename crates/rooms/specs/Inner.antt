@@ -9,8 +9,7 @@ use Rattle.format.specs.declared.Part.{Part}
 use Rattle.message.specs.Message.{Address}
 use Rattle.message.specs.declared.ListView.{ListView}
 use Rattle.message.specs.declared.BodyView.the-variants.{Shard, Delegate}
-use Rattle.delivery.specs.Memory.{capacity, markAt}
-use Rattle.posting.specs.Answers.{Open}
+use Rattle.delivery.specs.Memory.{Open, capacity, markAt}
 use Rattle.hosts.specs.declared.State.{State}
 use Rattle.rooms.specs.Answers.{Tested}
 

@@ -8,7 +8,7 @@ use limits::ENTRIES_LIMIT;
 use message::BodyView;
 use message::ListView;
 use peers::Peer;
-use posting::Vacancy;
+use picking::Vacancy;
 ghost use mathlib.Core.Path.{_≡_};
 ghost use Rattle.rooms.specs.Answers.{Tested};
 ghost use Rattle.rooms.specs.Inner.{Vacant, heard, ShardTested, DelegateTested};
@@ -86,7 +86,7 @@ fn without_place(room: bool) -> Verdict
 fn vacant(places: &[u64]) -> Verdict
     ensures { λ r. ⌜ Vacant (now (places .entry)) (r .room) ⌝ }
 {
-    match posting::free(places) {
+    match picking::free(places) {
         Vacancy::At(p) => Verdict {
             room: true,
             place: p,
@@ -149,7 +149,7 @@ fn delegate(
     ensures { λ r. ⌜ DelegateTested (now (lows .entry)) (now (owners .entry)) (now (keys .entry)) (now (slots .entry))
         (now («name_lens» .entry)) (now (names .entry)) k (now (from .entry)) (now (s .entry)) lo hi list r ⌝ }
 {
-    let Peer::Is(i) = peers::find(name_lens, names, k.width, k.hosts, from) else {
+    let Peer::Is(i) = finding::find(name_lens, names, k.width, k.hosts, from) else {
         return true;
     };
     let m = list.count as usize;

@@ -10,8 +10,7 @@ use Rattle.message.specs.Message.{Address, Body, message}
 use Rattle.message.specs.Table.{written, Valid}
 use Rattle.peers.specs.Names.{Keeps as KeepsNames}
 use Rattle.delivery.specs.Post.{Post, next, posted}
-use Rattle.delivery.specs.Memory.{Keeps as KeepsPost, Standing}
-use Rattle.posting.specs.Answers.{Open}
+use Rattle.delivery.specs.Memory.{Keeps as KeepsPost, Open, Standing}
 use Rattle.sending.specs.declared.Slot.{Slot}
 use Rattle.sending.specs.declared.Slot.the-variants.{Between, Missing}
 

@@ -13,8 +13,8 @@ use Rattle.message.specs.declared.ValueView.the-variants.{At}
 use Rattle.message.specs.View.{valueOf, ValueIn}
 use Rattle.delegation.specs.Map.{Owner}
 use Rattle.decoding.specs.Decode.{same}
-use Rattle.posting.specs.declared.Picked.the-variants.{Place, NoNumber, NoPlace}
-use Rattle.posting.specs.Answers.{AfterPick}
+use Rattle.picking.specs.declared.Picked.the-variants.{Place, NoNumber, NoPlace}
+use Rattle.picking.specs.Answers.{AfterPick}
 use Rattle.protocol.specs.Owners.{ownerOf}
 use Rattle.protocol.specs.Records.{Value}
 use Rattle.protocol.specs.State.{Host, Letter}

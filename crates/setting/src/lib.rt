@@ -5,7 +5,7 @@ use hosts::Done;
 use hosts::Processed;
 use hosts::State;
 use message::ValueView;
-use posting::Picked;
+use picking::Picked;
 ghost use Rattle.hosts.specs.Memory.{memory};
 ghost use Rattle.sets.specs.Answers.{Sound};
 ghost use Rattle.setting.specs.Answers.{AfterSet, AfterSettle};
@@ -37,7 +37,7 @@ pub fn set(
     if !sets::sound(s, v) {
         return hosts::dropped(k);
     }
-    let picked = posting::pick(counts, places, k.from, hint);
+    let picked = picking::pick(counts, places, k.from, hint);
     match picked {
         Picked::Place(p, number) => settle(
             lows,

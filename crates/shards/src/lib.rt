@@ -19,7 +19,7 @@ pub fn recipient(name_lens: &[u64], names: &[u8], k: State, s: &[u8], to: Part) 
         return Peer::Unknown;
     }
     let end = from + to.len;
-    let Peer::Is(i) = peers::find(name_lens, names, k.width, k.hosts, &s[from..end]) else {
+    let Peer::Is(i) = finding::find(name_lens, names, k.width, k.hosts, &s[from..end]) else {
         return Peer::Unknown;
     };
     if i == k.me {

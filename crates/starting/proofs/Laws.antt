@@ -13,7 +13,7 @@ use borrow.Author.Tests.{eqb-true}
 use Rattle.limits.specs.Limits.{bytesMax}
 use Rattle.message.specs.Message.{Address}
 use Rattle.memory.proofs.Parts.{length-part}
-use Rattle.strings.specs.Strings.{WellFormed, Inside}
+use Rattle.strings.specs.Strings.{WellFormed, Inside, NoneLonger}
 use Rattle.distinct.specs.Distinct.{string, Distinct}
 use Rattle.records.specs.Table.{empty}
 use Rattle.records.specs.Memory.{Shape, Keeps as KeepsTable}
@@ -26,7 +26,7 @@ use Rattle.peers.specs.declared.Added.the-variants.{At, Full, TooLong}
 use Rattle.peers.specs.Names.{Keeps as KeepsNames, AfterAdd, joined, places as namePlaces}
 use Rattle.delivery.specs.Post.{nothing}
 use Rattle.delivery.specs.Memory.{Keeps as KeepsPost, capacity}
-use Rattle.delivery.specs.Answers.{Shape as MailShape, AfterStart as PostStarted}
+use Rattle.opening.specs.Answers.{Shape as MailShape, AfterStart as PostStarted}
 use Rattle.protocol.specs.State.{start, fresh}
 use Rattle.hosts.specs.declared.State.{State}
 use Rattle.hosts.specs.Memory.{Memory, memory}
@@ -45,6 +45,10 @@ length-string : {ats lens : List ℕ} {n : ℕ} (bytes : List ℕ) → WellForme
     → length (string ats lens bytes i) ≡ getD lens i 0
 length-string {ats} {lens} bytes W i p = length-part bytes (getD ats i 0) (getD lens i 0) (W .within i p)
 
+-- where one is longer, not all are so short
+one-longer : {lens : List ℕ} {n most : ℕ} {r : Bool} → NoneLonger lens n most r → r ≡ false → NoLonger lens n most → ⊥
+one-longer T e f = let w = T .no e in omega (arith, w .2, f (w .0) (w .1))
+
 module _ {ats lens bytes : List ℕ} {n : ℕ} {me : Address} where
   none-starts : (WellFormed ats lens n (length bytes) → start (addresses ats lens bytes n) me ≡ none) → Own ats lens bytes n me n
   none-starts f = record { within = omega arith; starts = λ p. absurd (omega arith); none-starts = λ e. f }
@@ -60,10 +64,10 @@ module _ {ats lens bytes : List ℕ} {n : ℕ} {me : Address} where
       (λ W. let s = D .no e W in none-alike (string ats lens bytes) n me (s .0) (s .1) (s .2) (s .3) (s .4))
 
   -- one is too long
-  pub lengthy : {r : Bool} → Tells (NoLonger lens n (bytesMax - 1)) r → r ≡ false → Own ats lens bytes n me n
+  pub lengthy : {r : Bool} → NoneLonger lens n (bytesMax - 1) r → r ≡ false → Own ats lens bytes n me n
   lengthy T e =
       none-starts
-      (λ W. none-long (string ats lens bytes) n me (λ f. T .no e (λ i p. omega (arith, f i p, length-string bytes W i p))))
+      (λ W. none-long (string ats lens bytes) n me (λ f. one-longer T e (λ i p. omega (arith, f i p, length-string bytes W i p))))
 
   -- the list is in order, and the own address was looked for
   pub sought : {q : Bool} {p : ℕ} → WellFormed ats lens n (length bytes) → Distinct ats lens n bytes q → q ≡ true
@@ -229,10 +233,10 @@ module _ {ats addressLens bytes : List ℕ} {own n : ℕ} {me : Address} (O : Ow
     listed = O .starts within .listed
 
     -- an address is longer than there is room for
-    pub too-long : {m : Memory} {room : List ℕ} {width size : ℕ} {r : Bool} → Tells (NoLonger addressLens n width) r → r ≡ false
+    pub too-long : {m : Memory} {room : List ℕ} {width size : ℕ} {r : Bool} → NoneLonger addressLens n width r → r ≡ false
         → AfterStart m room width size ats addressLens bytes n me Unfit m
     too-long T e = record {
-      is = (refl, λ S. T .no e (λ i p. omega (arith, S .short i p, length-string bytes (listed .formed) i p)));
+      is = (refl, λ S. one-longer T e (λ i p. omega (arith, S .short i p, length-string bytes (listed .formed) i p)));
     }
 
     -- the addresses fit

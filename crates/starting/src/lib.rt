@@ -11,8 +11,7 @@ ghost use Rattle.distinct.specs.Distinct.{string};
 ghost use Rattle.delegation.specs.Map.{Keeps as KeepsMap};
 ghost use Rattle.peers.specs.Names.{Keeps as KeepsNames};
 ghost use Rattle.hosts.specs.Memory.{memory};
-ghost use Rattle.serving.specs.Answers.{Tells};
-ghost use Rattle.starting.specs.Inner.{NoLonger, Place, Own, Enlists};
+ghost use Rattle.starting.specs.Inner.{Place, Own, Enlists};
 ghost use Rattle.starting.specs.Answers.{AfterStart};
 
 // The new host's numbers; or that no host starts with such a list; or that what is lent does not serve.
@@ -71,12 +70,12 @@ pub fn start(
     ) {
         return Started::Unfit;
     }
-    if !none_longer(address_lens, n, width) {
+    if !strings::none_longer(address_lens, n, width) {
         return Started::Unfit;
     }
     let bounds = first_owns(lows, owners);
     records::start(keys, slots, lens, values);
-    delivery::start(counts, places, mail, size);
+    opening::start(counts, places, mail, size);
     enlist(name_lens, names, width, ats, address_lens, bytes, n);
     Started::Now(serving::begun(own, n, width, size, bounds))
 }
@@ -91,25 +90,10 @@ fn own_place(ats: &[u64], lens: &[u64], bytes: &[u8], n: usize, me: &[u8]) -> us
     if !distinct::distinct(ats, lens, n, bytes) {
         return n;
     }
-    if !none_longer(lens, n, BYTES_MAX - 1) {
+    if !strings::none_longer(lens, n, BYTES_MAX - 1) {
         return n;
     }
     place(ats, lens, bytes, n, me)
-}
-
-// Is none of the first n lengths larger than that?
-fn none_longer(lens: &[u64], n: usize, most: usize) -> bool
-    requires { ⌜ n ≤ length (now lens) ⌝ }
-    ensures { λ r. ⌜ Tells (NoLonger (now (lens .entry)) n most) r ⌝ }
-{
-    let mut i: usize = 0;
-    while i < n {
-        if most < lens[i] as usize {
-            return false;
-        }
-        i += 1;
-    }
-    true
 }
 
 // The place of the name on the list, or n if it is not there.

@@ -16,3 +16,8 @@ pub record WellFormed (ats lens : List ℕ) (m size : ℕ) : Type 0 where
 pub record Inside (ats lens : List ℕ) (m size : ℕ) (r : Bool) : Type 0 where
   pub yes : r ≡ true → WellFormed ats lens m size
   pub no : r ≡ false → WellFormed ats lens m size → ⊥
+
+-- r says whether none of the first m strings is longer
+pub record NoneLonger (lens : List ℕ) (m most : ℕ) (r : Bool) : Type 0 where
+  pub yes : r ≡ true → (i : ℕ) → i < m → getD lens i 0 ≤ most
+  pub no : r ≡ false → (i : ℕ) × (i < m) × (most < getD lens i 0)

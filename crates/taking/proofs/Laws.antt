@@ -15,7 +15,7 @@ use Rattle.message.specs.Message.{Address, Body}
 use Rattle.peers.specs.Names.{Keeps as KeepsNames, places, joined as named}
 use Rattle.delivery.specs.Post.{joined}
 use Rattle.delivery.specs.Memory.{Keeps as KeepsPost}
-use Rattle.delivery.specs.Answers.{AfterTake as AfterCount}
+use Rattle.counting.specs.Answers.{AfterTake as AfterCount}
 use Rattle.protocol.specs.State.{Host}
 use Rattle.hosts.specs.declared.State.{State}
 use Rattle.hosts.specs.Memory.{Memory, memory}

@@ -12,7 +12,7 @@ use Rattle.peers.specs.declared.Peer.the-variants.{Is, Unknown}
 use Rattle.peers.specs.declared.Added.{Added}
 use Rattle.peers.specs.declared.Added.the-variants.{At as AddedAt, Full as NoPlace, TooLong}
 use Rattle.peers.specs.Names.{AfterFind, AfterAdd}
-use Rattle.delivery.specs.Answers.{AfterJoin as AfterWords}
+use Rattle.counting.specs.Answers.{AfterJoin as AfterWords}
 use Rattle.taking.specs.declared.Seat.{Seat}
 use Rattle.taking.specs.declared.Seat.the-variants.{At, Full}
 use Rattle.taking.specs.Inner.{AfterSeat, AfterJoin}

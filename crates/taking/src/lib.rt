@@ -34,7 +34,7 @@ pub fn take(
     let Seat::At(i, peers) = seated(name_lens, names, counts, k.width, k.peers, from, hint) else {
         return Taken::NoRoom;
     };
-    delivery::take(counts, i, number);
+    counting::take(counts, i, number);
     memory::copy(s, room, 0);
     Taken::Now(State {
         me: k.me,
@@ -70,7 +70,7 @@ fn seated(
     ensures { λ r. ⌜ AfterSeat (now («name_lens» .entry)) (now (names .entry)) (now (counts .entry)) width n (now (from .entry)) r
         (now («name_lens» .exit)) (now (names .exit)) (now (counts .exit)) ⌝ }
 {
-    let found = peers::find_near(name_lens, names, width, n, from, hint);
+    let found = finding::find_near(name_lens, names, width, n, from, hint);
     match found {
         Peer::Is(i) => Seat::At(i, n),
         Peer::Unknown => join(name_lens, names, counts, width, n, from),
@@ -95,7 +95,7 @@ fn join(
     let added = peers::add(name_lens, names, width, n, from);
     match added {
         Added::At(i) => {
-            delivery::join(counts, n);
+            counting::join(counts, n);
             Seat::At(i, n + 1)
         }
         Added::Full => Seat::Full,

@@ -24,19 +24,19 @@ returns-2 c =
           (record { fits-ats = h .fits-ats; fits-lens = h .fits-lens; within = h .inside });
     }
 
-short-requires : tie.Need-short-requires
-short-requires c κs = search needs
+none-longer-requires : tie.Need-none-longer-requires
+none-longer-requires c κs = search needs
 
 returns-3 : tie.Need-returns-3
 returns-3 c =
-    let r = c .before .short in
+    let r = c .before .none-longer in
     record { is = r .ensures .no (not-true (r .result) (c .if3 .taken)) }
 
 returns-4 : tie.Need-returns-4
 returns-4 c =
     let r = c .before .before .before .before .before .rises in
     let i = c .before .before .before .inside in
-    let s = c .before .short in
+    let s = c .before .none-longer in
     let up = r .ensures .yes (not-false (r .result) (c .before .before .before .before .if1 .left)) in
     let in-bytes = i .ensures .yes (not-false (i .result) (c .before .before .if2 .left)) in
     record {
@@ -49,4 +49,4 @@ returns-4 c =
 pub check-spec : {M : Type 1} → statement M
 check-spec =
     tie.close
-    (tie.spec rises-requires returns inside-requires returns-2 short-requires returns-3 returns-4)
+    (tie.spec rises-requires returns inside-requires returns-2 none-longer-requires returns-3 returns-4)

@@ -24,8 +24,7 @@ sub-none-longer : tie.Need-sub-none-longer
 sub-none-longer c = search needs
 
 none-longer-requires : tie.Need-none-longer-requires
-none-longer-requires c κs =
-    c .before .before .before .inside .ensures .yes (not-false (c .before .before .before .inside .result) (c .before .before .if1 .left)) .fits-lens
+none-longer-requires c κs = search needs
 
 returns-3 : tie.Need-returns-3
 returns-3 c =

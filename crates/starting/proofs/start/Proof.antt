@@ -4,7 +4,7 @@ use borrow.Author.Needs.{needs}
 use Rattle.starting.proofs.start.Statement.{statement}
 use Rattle.starting.proofs.start.Tie as tie
 use borrow.Author.Tests.{not-true, not-false}
-use Rattle.starting.proofs.Laws.{too-little, no-host, listed, too-long, enlists, started}
+use Rattle.starting.proofs.Laws.{too-little, no-host, too-long, enlists, started}
 
 own-place-requires : tie.Need-own-place-requires
 own-place-requires c κs = search needs
@@ -21,8 +21,7 @@ returns-2 c =
     too-little (c .before .serves .ensures) (not-true (c .before .serves .result) (c .if2 .taken))
 
 none-longer-requires : tie.Need-none-longer-requires
-none-longer-requires c κs =
-    listed (c .before .before .before .own-place .ensures) (c .before .before .if1 .left) .formed .fits-lens
+none-longer-requires c κs = search needs
 
 returns-3 : tie.Need-returns-3
 returns-3 c =
