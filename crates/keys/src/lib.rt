@@ -3,15 +3,16 @@
 // A key is 64 bits. A bound is a key or "end", which lies above every key and is no key itself: the
 // range up to the key 2^64 - 1 leaves that key out, the range up to end has it. A range [lo, hi) is
 // passed as its two bounds. What each answer means stands in specs/Bound.antt.
-ghost use mathlib.Core.Path.{_≡_};
-ghost use mathlib.Core.Bool.{not};
-ghost use Rattle·keys·specs.specs.Bound.{below, holds, order};
+ghost use Rattle.std.specs.Prelude.{◌≡◌, not};
+ghost use Rattle.keys.specs.Bound.{below, holds, order};
 
+#[derive(Drop)]
 pub enum Bound {
     Key(u64),
     End,
 }
 
+#[derive(Drop)]
 pub enum Order {
     Less,
     Equal,
@@ -20,7 +21,7 @@ pub enum Order {
 
 // Does a lie below b?
 pub fn is_below(a: Bound, b: Bound) -> bool
-    ensures { λ r. ⌜ r ≡ below a b ⌝ }
+    ensures { result ≡ below a b }
 {
     match a {
         Bound::Key(x) => match b {
@@ -33,7 +34,7 @@ pub fn is_below(a: Bound, b: Bound) -> bool
 
 // Where a lies, seen from b.
 pub fn compare(a: Bound, b: Bound) -> Order
-    ensures { λ r. ⌜ r ≡ order a b ⌝ }
+    ensures { result ≡ order a b }
 {
     if is_below(a, b) {
         return Order::Less;
@@ -46,14 +47,14 @@ pub fn compare(a: Bound, b: Bound) -> Order
 
 // Does the range [lo, hi) hold no key?
 pub fn is_empty(lo: Bound, hi: Bound) -> bool
-    ensures { λ r. ⌜ r ≡ not (below lo hi) ⌝ }
+    ensures { result ≡ not (below lo hi) }
 {
     !is_below(lo, hi)
 }
 
 // Does the range [lo, hi) hold the key?
 pub fn contains(lo: Bound, hi: Bound, key: u64) -> bool
-    ensures { λ r. ⌜ r ≡ holds lo hi key ⌝ }
+    ensures { result ≡ holds lo hi key }
 {
     if is_below(Bound::Key(key), lo) {
         return false;
