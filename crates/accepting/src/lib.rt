@@ -1,5 +1,7 @@
 // A transfer that is taken: the row of the Delegate in document 01, section 5. The range becomes the
 // host's, with exactly the entries that were sent. The room test has made sure that there is room.
+#![tactic(auto)]
+
 ghost use Rattle.accepting.specs.Answers.{AfterDelegate};
 ghost use Rattle.accepting.specs.Inner.{AfterTake, AfterEntries};
 

@@ -1,5 +1,7 @@
 // An Ack arrives (document 01, section 4): it counts if it comes from one to whom something may have been
 // sent and says more than was known. An Ack is never acknowledged.
+#![tactic(auto)]
+
 ghost use Rattle.acknowledging.specs.Answers.{AfterAck};
 
 use hosts::State;

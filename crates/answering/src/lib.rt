@@ -1,5 +1,7 @@
 // A Set and a Reply written into lent bytes: a key with a value, or none. The value is copied once, from
 // where it stands to its place in the message.
+#![tactic(auto)]
+
 ghost use Rattle.format.specs.Format.{number, maybe, pair};
 ghost use Rattle.fronts.specs.Front.{AfterFields};
 ghost use Rattle.message.specs.Given.{given};

@@ -1,4 +1,6 @@
 // A turn for receiving (document 01, section 5): the datagram that has arrived, if one has, is received.
+#![tactic(auto)]
+
 ghost use Rattle.std.specs.Prelude.{List, ℕ};
 ghost use Rattle.hosts.specs.Memory.{memory};
 ghost use Rattle.arriving.specs.Answers.{AfterArrive};

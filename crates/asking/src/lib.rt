@@ -1,5 +1,7 @@
 // A Shard written into lent bytes: what a client asks with, that a range be given to another host. A host
 // never sends one.
+#![tactic(auto)]
+
 ghost use Rattle.message.specs.Message.{message, shard};
 ghost use Rattle.message.specs.Answers.{AfterWrite};
 

@@ -1,5 +1,7 @@
 // Does memory keep a host? For audits, not for steps: a part of it takes a turn for each pair of places or
 // of peers, and every datagram that waits is read.
+#![tactic(auto)]
+
 ghost use Rattle.hosts.specs.Memory.{memory};
 ghost use Rattle.auditing.specs.Answers.{Audited};
 ghost use Rattle.auditing.specs.Inner.{Agreeing};

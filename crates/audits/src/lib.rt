@@ -1,5 +1,7 @@
 // Does memory keep what it should? For audits, not for steps: the look at the slots takes a turn for
 // each pair of places.
+#![tactic(auto)]
+
 ghost use Rattle.std.specs.Prelude.{◌<◌, ◌≤◌, length};
 ghost use Rattle.audits.specs.Answers.{Valid};
 ghost use Rattle.audits.specs.Inner.{Permuted, Fresh, AllShort};

@@ -1,4 +1,6 @@
 // Are the datagrams that wait messages? For audits, not for steps: each of them is read.
+#![tactic(auto)]
+
 ghost use Rattle.std.specs.Prelude.{◌+◌, ◌*◌, ◌≤◌, ◌<◌, length};
 ghost use Rattle.delivery.specs.Memory.{capacity};
 ghost use Rattle.audits_mail.specs.Answers.{Valid};

@@ -1,4 +1,6 @@
 // Does memory keep a map from key to owner? For audits, not for steps: all bounds are looked at.
+#![tactic(auto)]
+
 ghost use Rattle.std.specs.Prelude.{◌≤◌, length};
 ghost use Rattle.audits_map.specs.Answers.{Valid};
 ghost use Rattle.audits_map.specs.Inner.{Owned, Turning};

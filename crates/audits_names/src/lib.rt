@@ -1,5 +1,7 @@
 // Does memory keep the addresses of peers? For audits, not for steps: each address is compared with all
 // before it.
+#![tactic(auto)]
+
 ghost use Rattle.std.specs.Prelude.{◌+◌, ◌*◌, ◌≤◌, ◌<◌, length};
 ghost use Rattle.audits_names.specs.Answers.{Valid};
 ghost use Rattle.audits_names.specs.Inner.{Fresh};

@@ -1,5 +1,7 @@
 // Does memory keep what is known of peers, and the messages that wait for them? For audits, not for steps:
 // for each place, and for each message that should wait, all places are looked through.
+#![tactic(auto)]
+
 ghost use Rattle.std.specs.Prelude.{◌+◌, ◌*◌, ◌≤◌, ◌<◌, length};
 ghost use Rattle.delivery.specs.Memory.{capacity};
 ghost use Rattle.audits_post.specs.Answers.{Valid};

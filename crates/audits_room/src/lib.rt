@@ -1,4 +1,6 @@
 // Is the room free, or does it hold a message? For audits.
+#![tactic(auto)]
+
 ghost use Rattle.std.specs.Prelude.{List, ℕ};
 ghost use Rattle.hosts.specs.Memory.{memory};
 ghost use Rattle.audits_room.specs.Answers.{Valid};

@@ -1,4 +1,6 @@
 // The bodies, one reader each, and the one that tells them apart by their byte.
+#![tactic(auto)]
+
 ghost use Rattle.bodies.specs.Answers.{ReadBody, ReadFields};
 
 use fields::RangeRead;
@@ -9,7 +11,7 @@ use message::{BodyView, ListView};
 use values::KeyedRead;
 
 // A body, and the place behind it.
-#[derive(Drop)]
+#[derive(Clone, Copy)]
 pub enum BodyRead {
     Is(BodyView, usize),
     Missing,

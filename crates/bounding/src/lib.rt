@@ -1,5 +1,7 @@
 // How many bounds a change of the map would leave, told before it is made. `grants` makes it; what stands in a
 // column then is said here, for both, in specs/Edit.antt and proofs/Edited.antt. Nothing is asked of a caller.
+#![tactic(auto)]
+
 ghost use Rattle.delegation.specs.Map.{Left};
 
 use keys::Bound;

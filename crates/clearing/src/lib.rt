@@ -1,5 +1,7 @@
 // All that waits for a peer up to a number stops waiting: one pass over the places. Apart from `confirming`,
 // which needs it only for an Ack of more than the next message. Nothing is asked of a caller.
+#![tactic(auto)]
+
 ghost use Rattle.clearing.specs.Answers.{Cleared};
 
 use delivery::WORDS;

@@ -1,4 +1,6 @@
 // What became of a step, as a number, and the place of the datagram to send.
+#![tactic(auto)]
+
 ghost use Rattle.std.specs.Prelude.{◌≡◌};
 ghost use Rattle.codes.specs.Codes.{receivedCode, processedCode, processedPlace, repeatedCode, turnedCode, turnedPlace, auditedCode};
 

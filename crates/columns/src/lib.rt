@@ -2,6 +2,8 @@
 // places of an entry in all of them are the same. What each function answers stands in
 // specs/Column.antt. Nothing is asked of a caller: what does not fit is refused, and then nothing has
 // changed.
+#![tactic(auto)]
+
 ghost use Rattle.columns.specs.Column.{Inserted, Cut, Rises};
 
 // Puts v before the element at `at`. What stood at n, past those that count, is gone.

@@ -1,6 +1,8 @@
 // Messages written into lent bytes, one function a kind: here an Ack and a Get. What is written is the
 // definition's encoding (crate `message`), from the front of what is lent on. A message that does not fit,
 // or that may not be written, is refused and nothing has changed.
+#![tactic(auto)]
+
 ghost use Rattle.message.specs.Message.{message, ack, get};
 ghost use Rattle.message.specs.Answers.{AfterWrite};
 

@@ -1,4 +1,6 @@
 // An Ack: what was sent to a peer has arrived, up to a number. Exactly those messages stop waiting.
+#![tactic(auto)]
+
 ghost use Rattle.confirming.specs.Answers.{AfterConfirm, Freed, Released};
 
 use delivery::WORDS;

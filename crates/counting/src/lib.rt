@@ -1,5 +1,7 @@
 // What was taken from a peer is counted, and a new peer joins: the two changes to the peers' words that a
 // message which is taken makes. Nothing is asked of a caller.
+#![tactic(auto)]
+
 ghost use Rattle.counting.specs.Answers.{AfterTake, AfterJoin};
 
 use delivery::WORDS;

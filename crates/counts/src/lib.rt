@@ -1,5 +1,7 @@
 // How many entries of the table of `records` a range has, and how many a replacement would leave. The table
 // is not touched.
+#![tactic(auto)]
+
 ghost use Rattle.counts.specs.Answers.{Counted, Left};
 ghost use Rattle.counts.specs.Inner.{IsNew};
 

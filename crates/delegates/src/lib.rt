@@ -1,5 +1,7 @@
 // The tests on a Delegate (document 01, section 5), which the room test and the processing share, and its list
 // written down as columns.
+#![tactic(auto)]
+
 ghost use Rattle.delegates.specs.Answers.{Fine, AfterColumns};
 
 use hosts::State;

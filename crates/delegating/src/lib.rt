@@ -1,5 +1,7 @@
 // A Delegate written into lent bytes: a range and its entries, handed in as columns (specs/Columns.antt).
 // Each value is copied once, from where it stands to its place in the message.
+#![tactic(auto)]
+
 ghost use Rattle.std.specs.Prelude.{◌≡◌, ◌+◌, ◌≤◌, ◌<◌, length, get_or};
 ghost use Rattle.memory.specs.Bytes.{placed};
 ghost use Rattle.format.specs.Number.{width};

@@ -8,11 +8,13 @@
 //
 // Here a map is begun and read. `plans` works out what giving a range away does with the bounds, and
 // `grants` does it.
+#![tactic(auto)]
+
 ghost use Rattle.columns.specs.Column.{Upto};
 ghost use Rattle.delegation.specs.Map.{AfterStart, Enough, Owner};
 
 // What a change answers: how many bounds there are now, or that they do not fit what is lent.
-#[derive(Drop)]
+#[derive(Clone, Copy)]
 pub enum Changed {
     Bounds(usize),
     NoRoom,

@@ -7,6 +7,8 @@
 // `opening` makes it ready, `counting` tells it of a message that was taken and of a new peer, `picking`
 // finds a place and a number for a message, `posting` lets it wait there, `confirming` takes an Ack,
 // `resending` goes through all that waits.
+#![tactic(auto)]
+
 ghost use Rattle.delivery.specs.Answers.{Counted};
 
 // The words of a peer, and those of a place.
@@ -14,7 +16,7 @@ pub const WORDS: usize = 3;
 
 // The number of the last message that was taken from a peer, how many it has acknowledged, and the number
 // of the last message that was sent to it.
-#[derive(Drop)]
+#[derive(Clone, Copy)]
 pub struct Counts {
     pub received: u64,
     pub acknowledged: u64,

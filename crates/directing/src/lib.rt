@@ -1,4 +1,6 @@
 // A Redirect written into lent bytes: who asked for a key of another host is told that host's address.
+#![tactic(auto)]
+
 ghost use Rattle.message.specs.Message.{message, redirect};
 ghost use Rattle.message.specs.Answers.{AfterWrite};
 

@@ -1,6 +1,8 @@
 // Which strings of a list are equal, the list handed in as `strings` has it: is a name among them, and do
 // all of them differ, as the addresses of hosts must? What each function answers stands in
 // specs/Distinct.antt; nothing is asked of a caller.
+#![tactic(auto)]
+
 ghost use Rattle.distinct.specs.Distinct.{Among, Distinct};
 
 // Is the name one of the m strings?

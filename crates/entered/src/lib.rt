@@ -1,11 +1,13 @@
 // A list of entries as it is handed in, in columns of m places: is it well formed, and no value too long? It stands apart
 // from `entries`, which replaces a range by such a list, so that a change in one need not prove the other again.
+#![tactic(auto)]
+
 ghost use Rattle.entered.specs.Entered.{Checked};
 
 use limits::VALUE_MAX;
 
 // What a look at the list finds.
-#[derive(Drop)]
+#[derive(Clone, Copy)]
 pub enum Look {
     Fine,
     Long,

@@ -1,5 +1,7 @@
 // Replacing a range by a list of entries. The list is handed in as columns of m places: keys, which
 // rise strictly, and where in the bytes each value stands.
+#![tactic(auto)]
+
 ghost use Rattle.std.specs.Prelude.{◌≤◌, length};
 ghost use Rattle.entries.specs.Answers.{AfterReplace};
 ghost use Rattle.entered.specs.Entered.{CheckCases};
@@ -11,7 +13,7 @@ use stores::Stored;
 
 // What a replacement answers: how many entries there are now, or a refusal, and then nothing has
 // changed.
-#[derive(Drop)]
+#[derive(Clone, Copy)]
 pub enum Replaced {
     Entries(usize),
     Full,

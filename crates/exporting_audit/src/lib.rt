@@ -1,4 +1,6 @@
 // Does memory keep a host, with its numbers in lent words?
+#![tactic(auto)]
+
 ghost use Rattle.hosts.specs.Memory.{memory};
 ghost use Rattle.exporting_audit.specs.Answers.{Auditing};
 

@@ -1,4 +1,6 @@
 // The message in the room is processed, by a host whose numbers stand in lent words.
+#![tactic(auto)]
+
 ghost use Rattle.hosts.specs.Memory.{memory};
 ghost use Rattle.exporting_process.specs.Answers.{Processing, KeptStep};
 

@@ -1,4 +1,6 @@
 // A datagram arrives at a host whose numbers stand in lent words.
+#![tactic(auto)]
+
 ghost use Rattle.std.specs.Prelude.{List, ℕ};
 ghost use Rattle.hosts.specs.Memory.{memory};
 ghost use Rattle.exporting_receive.specs.Answers.{Receiving, KeptArrival};

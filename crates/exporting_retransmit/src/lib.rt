@@ -1,4 +1,6 @@
 // The waiting messages go out again, from a host whose numbers stand in lent words.
+#![tactic(auto)]
+
 ghost use Rattle.exporting_retransmit.specs.Answers.{Repeating};
 
 use numbers::WORDS;

@@ -1,4 +1,6 @@
 // A host is started, and its numbers are written into lent words.
+#![tactic(auto)]
+
 ghost use Rattle.hosts.specs.Memory.{memory};
 ghost use Rattle.exporting_start.specs.Answers.{Starting, Kept};
 

@@ -1,4 +1,6 @@
 // A turn of a host whose numbers stand in lent words: the three kinds of step in rotation.
+#![tactic(auto)]
+
 ghost use Rattle.hosts.specs.Memory.{memory};
 ghost use Rattle.exporting_turn.specs.Answers.{Turning, KeptTurn};
 

@@ -1,17 +1,19 @@
 // A bound, and the two of a range, read at a place of a datagram's bytes: the fields that a Shard and a
 // Delegate share. `values` reads those of a Set and a Reply.
+#![tactic(auto)]
+
 ghost use Rattle.fields.specs.Answers.{ReadBound, ReadRange};
 
 use format::{NumberRead, WIDTH};
 use keys::Bound;
 
-#[derive(Drop)]
+#[derive(Clone, Copy)]
 pub enum BoundRead {
     Is(Bound, usize),
     Missing,
 }
 
-#[derive(Drop)]
+#[derive(Clone, Copy)]
 pub enum RangeRead {
     Is(Bound, Bound, usize),
     Missing,

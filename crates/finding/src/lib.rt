@@ -1,5 +1,7 @@
 // Which peer has that address? The names that `peers` keeps are looked through, from the front or with a
 // place to look at first, and addresses that differ are told apart early. Nothing is asked of a caller.
+#![tactic(auto)]
+
 ghost use Rattle.std.specs.Prelude.{◌≡◌, true, ◌+◌, ◌*◌, ◌≤◌, length};
 ghost use Rattle.peers.specs.Names.{Standing, AfterFind};
 

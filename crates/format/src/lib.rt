@@ -2,6 +2,8 @@
 // section 3). The grammar itself is specs/Format.antt. A reader answers by value where a part stands and
 // how long it is; the bytes stay where they are. Whatever the bytes are, each answer is exact: what is
 // found is written there, and what is missing is written in no way.
+#![tactic(auto)]
+
 ghost use Rattle.std.specs.Prelude.{◌≡◌, ◌+◌, ◌<◌, ◌≤◌, ◌^◌, length};
 ghost use Rattle.format.specs.Number.{worth, width, numbers};
 ghost use Rattle.format.specs.Answers.{ReadNumber, ReadText};
@@ -10,19 +12,19 @@ ghost use Rattle.format.specs.Answers.{ReadNumber, ReadText};
 pub const WIDTH: usize = 8;
 
 // Where a part of the bytes stands, and how long it is.
-#[derive(Drop)]
+#[derive(Clone, Copy)]
 pub struct Part {
     pub at: usize,
     pub len: usize,
 }
 
-#[derive(Drop)]
+#[derive(Clone, Copy)]
 pub enum NumberRead {
     Is(u64),
     Missing,
 }
 
-#[derive(Drop)]
+#[derive(Clone, Copy)]
 pub enum TextRead {
     Is(Part),
     Missing,

@@ -1,5 +1,7 @@
 // The front of a message, written into lent bytes. A message is refused before anything is written, or
 // written whole.
+#![tactic(auto)]
+
 ghost use Rattle.std.specs.Prelude.{◌≡◌, ℕ, length};
 ghost use Rattle.fronts.specs.Front.{AfterStart, front};
 
@@ -7,7 +9,7 @@ use format::WIDTH;
 use limits::BYTES_MAX;
 
 // Where the fields of the body go, or why there is no message.
-#[derive(Drop)]
+#[derive(Clone, Copy)]
 pub enum Start {
     At(usize),
     NoRoom,

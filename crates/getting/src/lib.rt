@@ -1,6 +1,8 @@
 // The rows of the Get in document 01, section 5: a Reply with the value or none where the key is the
 // host's own, else a Redirect to its owner. The value is copied once, from the table to the place where
 // the Reply waits.
+#![tactic(auto)]
+
 ghost use Rattle.hosts.specs.Memory.{memory};
 ghost use Rattle.getting.specs.Answers.{AfterGet, AfterRespond, AfterValue};
 

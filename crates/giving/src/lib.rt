@@ -1,4 +1,6 @@
 // A range is given away: it becomes the recipient's in the map, and its entries are taken out of the table.
+#![tactic(auto)]
+
 ghost use Rattle.giving.specs.Answers.{AfterGive};
 
 use delegation::Changed;

@@ -1,5 +1,7 @@
 // Giving the keys of a range to an owner. `plans` says what to do with the bounds, and it is done to both
 // columns alike. Nothing is asked of a caller.
+#![tactic(auto)]
+
 ghost use Rattle.std.specs.Prelude.{◌≡◌, ◌+◌, ◌≤◌, length};
 ghost use Rattle.delegation.specs.Map.{AfterSet};
 ghost use Rattle.plans.specs.Plan.{Edited, key_of, count};

@@ -1,6 +1,8 @@
 // A range that is handed over: the row of the Shard in document 01, section 5. The range becomes the
 // recipient's, and its entries go there in a Delegate that waits until it is acknowledged. The room test
 // has made sure that there is room.
+#![tactic(auto)]
+
 ghost use Rattle.handing.specs.Answers.{AfterShard};
 ghost use Rattle.handing.specs.Inner.{AfterOffer, AfterHand};
 

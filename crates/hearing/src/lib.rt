@@ -1,5 +1,7 @@
 // What is known of a message's two addresses: the number of the last message that was taken from the sender, and
 // whether the destination is the host's own (document 01, section 4).
+#![tactic(auto)]
+
 ghost use Rattle.hearing.specs.Answers.{Last, Own};
 
 use hosts::State;
@@ -7,7 +9,7 @@ use peers::{Peer, Where};
 
 // The number of the last message that was taken from an address: 0 if none was. The peer is a hint, where the
 // address was found; of an address that was not it says nothing.
-#[derive(Drop)]
+#[derive(Clone, Copy)]
 pub struct Heard {
     pub number: u64,
     pub peer: usize,

@@ -1,5 +1,6 @@
 // A host over lent memory: its plain numbers, and what its steps answer. specs/Keeps.antt says which host
 // memory keeps; the host itself, as a function, is crate `protocol`.
+#![tactic(auto)]
 
 ghost use Rattle.std.specs.Prelude.{◌≡◌, suc, ◌<◌};
 ghost use Rattle.limits.specs.Limits.{numbers};
@@ -10,7 +11,7 @@ use limits::NUMBER_MAX;
 // The plain numbers of a host. `me` is the own number among the peers, of whom the first `hosts` are the
 // hosts; names stand `width` bytes apart and datagrams `size`; `len` is the length of the datagram in the
 // room, 0 if it is free, and `from` the number of the peer that sent it.
-#[derive(Drop)]
+#[derive(Clone, Copy)]
 pub struct State {
     pub me: usize,
     pub hosts: usize,
@@ -26,7 +27,7 @@ pub struct State {
 }
 
 // What became of the message in the room, with the place of the datagram to send if there is one.
-#[derive(Drop)]
+#[derive(Clone, Copy)]
 pub enum Processed {
     Idle,
     Stuck,
@@ -39,7 +40,7 @@ pub enum Processed {
 }
 
 // The host's numbers after a step, and what became of it.
-#[derive(Drop)]
+#[derive(Clone, Copy)]
 pub struct Done {
     pub state: State,
     pub outcome: Processed,

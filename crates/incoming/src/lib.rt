@@ -1,6 +1,8 @@
 // A message arrives while the room is free (document 01, sections 4 to 6). A new one is taken if there is room for
 // all that it may need, and acknowledged; one that was taken before is acknowledged again; one from the future is
 // neither taken nor acknowledged. What became of a datagram is named here too, for `receiving` and its callers.
+#![tactic(auto)]
+
 ghost use Rattle.std.specs.Prelude.{◌≡◌, List, ℕ};
 ghost use Rattle.message.specs.Answers.{AfterParse};
 ghost use Rattle.message.specs.declared.Parsed.TheVariants.{Message};
@@ -14,7 +16,7 @@ use sorting::Kind;
 use taking::Taken as Took;
 
 // What became of a datagram. Unfit: what was lent for the Ack is too short, and nothing was done.
-#[derive(Drop)]
+#[derive(Clone, Copy)]
 pub enum Received {
     Full,
     Invalid,
@@ -30,7 +32,7 @@ pub enum Received {
 
 // The host's numbers after a datagram arrived, and what became of it. The place is a hint for processing: the
 // free place that was found for what a message that was taken may send; else 0.
-#[derive(Drop)]
+#[derive(Clone, Copy)]
 pub struct Arrival {
     pub state: State,
     pub outcome: Received,

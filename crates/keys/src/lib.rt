@@ -3,16 +3,18 @@
 // A key is 64 bits. A bound is a key or "end", which lies above every key and is no key itself: the
 // range up to the key 2^64 - 1 leaves that key out, the range up to end has it. A range [lo, hi) is
 // passed as its two bounds. What each answer means stands in specs/Bound.antt.
+#![tactic(auto)]
+
 ghost use Rattle.std.specs.Prelude.{◌≡◌, not};
 ghost use Rattle.keys.specs.Bound.{below, holds, order};
 
-#[derive(Drop)]
+#[derive(Clone, Copy)]
 pub enum Bound {
     Key(u64),
     End,
 }
 
-#[derive(Drop)]
+#[derive(Clone, Copy)]
 pub enum Order {
     Less,
     Equal,

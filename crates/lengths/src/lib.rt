@@ -1,5 +1,7 @@
 // How many bytes the fields of a message that may be missing take, told before they are written: a
 // writer begins only once it knows that the whole message fits. `options` writes these fields.
+#![tactic(auto)]
+
 ghost use Rattle.std.specs.Prelude.{◌≡◌, ◌+◌, ◌≤◌, length};
 ghost use Rattle.format.specs.Number.{width};
 ghost use Rattle.format.specs.Format.{number, maybe, encode};

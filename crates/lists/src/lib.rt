@@ -1,25 +1,27 @@
 // A list of entries, read: how many there are, then a key and a value for each, with keys that rise strictly.
+#![tactic(auto)]
+
 ghost use Rattle.std.specs.Prelude.{◌≡◌, true, false, ◌<◌, ◌≤◌, length};
 ghost use Rattle.lists.specs.Answers.{ReadRow, ReadRows, ReadList, lowest};
 
 use format::{NumberRead, Part, TextRead, WIDTH};
 
 // An entry: its key, and where its value stands.
-#[derive(Drop)]
+#[derive(Clone, Copy)]
 pub enum RowRead {
     Is(u64, Part),
     Missing,
 }
 
 // A list: how many entries it has, and the place behind it. The first entry stands behind the count.
-#[derive(Drop)]
+#[derive(Clone, Copy)]
 pub enum ListRead {
     Is(u64, usize),
     Missing,
 }
 
 // The entries of a list: the place behind them.
-#[derive(Drop)]
+#[derive(Clone, Copy)]
 enum RowsRead {
     Upto(usize),
     Missing,

@@ -1,5 +1,7 @@
 // Lent bytes, worked on in one place: the only copy of bytes, and the comparison of two byte strings.
 // Nothing is asked of a caller: what does not fit is refused, and then nothing has changed.
+#![tactic(auto)]
+
 ghost use Rattle.std.specs.Prelude.{◌≡◌, ◌+◌, ◌≤◌, ◌<◌, length, take, drop};
 ghost use Rattle.std.proofs.Math.Seq.{paste};
 ghost use Rattle.memory.specs.Bytes.{Copied, Same};

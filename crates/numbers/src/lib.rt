@@ -1,4 +1,6 @@
 // A host's plain numbers in lent words: loaded before a step and stored after it.
+#![tactic(auto)]
+
 ghost use Rattle.std.specs.Prelude.{◌≡◌, ◌≤◌, length, get_or};
 ghost use Rattle.numbers.specs.Words.{words, placeWord, state_of};
 

@@ -1,5 +1,7 @@
 // Nothing received, nothing sent: the memory of delivery made ready, once, before anything else is done with
 // it. Nothing is asked of a caller.
+#![tactic(auto)]
+
 ghost use Rattle.std.specs.Prelude.{◌≡◌, get_or, ℕ};
 ghost use Rattle.opening.specs.Answers.{AfterStart};
 

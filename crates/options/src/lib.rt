@@ -1,6 +1,8 @@
 // The fields of a message that may be missing, written into lent bytes: a bound, which is a key or none
 // for end, and a value or none. Each answers whether it fits there; if not, nothing has changed. How many
 // bytes they take is told by `lengths`.
+#![tactic(auto)]
+
 ghost use Rattle.std.specs.Prelude.{true};
 ghost use Rattle.memory.specs.Bytes.{Copied};
 ghost use Rattle.keys.specs.declared.Bound.TheVariants.{Key};

@@ -1,6 +1,8 @@
 // Messages read from the bytes of a datagram (document 01, section 3). `parse` answers a view by value and
 // copies nothing. Its work is bounded by the datagram's length, whatever counts and lengths the bytes
 // claim: each byte is looked at once, by the reader of the part that it stands in.
+#![tactic(auto)]
+
 ghost use Rattle.std.specs.Prelude.{◌≡◌, ◌<◌, length, get_or};
 ghost use Rattle.message.specs.Answers.{AfterParse};
 

@@ -2,18 +2,20 @@
 // `lens` how long each is; the first n count. A peer's number never changes. What memory keeps, and what
 // each answer says, stands in specs/Names.antt; nothing is asked of a caller. An address is looked for in
 // `finding`, a crate of its own since its proofs are the longest.
+#![tactic(auto)]
+
 ghost use Rattle.std.specs.Prelude.{◌≡◌, min, ◌*◌, ◌/◌, ◌≤◌, ◌<◌};
 ghost use Rattle.peers.specs.Names.{AfterName, AfterAdd};
 
 // The number of an address.
-#[derive(Drop)]
+#[derive(Clone, Copy)]
 pub enum Peer {
     Is(usize),
     Unknown,
 }
 
 // The number that an address got, or why it got none.
-#[derive(Drop)]
+#[derive(Clone, Copy)]
 pub enum Added {
     At(usize),
     Full,
@@ -21,7 +23,7 @@ pub enum Added {
 }
 
 // Where a peer's address stands in the names, from one byte up to another, or that there is no such peer.
-#[derive(Drop)]
+#[derive(Clone, Copy)]
 pub enum Where {
     At(usize, usize),
     Missing,

@@ -1,19 +1,21 @@
 // A place and a number for a message that is to be sent. Nothing changes: the datagram is written into the
 // place next, and only `posting` lets it wait there. Nothing is asked of a caller.
+#![tactic(auto)]
+
 ghost use Rattle.picking.specs.Answers.{AfterFree, AfterPick};
 
 use delivery::WORDS;
 use limits::NUMBER_MAX;
 
 // A free place.
-#[derive(Drop)]
+#[derive(Clone, Copy)]
 pub enum Vacancy {
     At(usize),
     Nowhere,
 }
 
 // A place for the next message to a peer, and its number; or why it can't be sent.
-#[derive(Drop)]
+#[derive(Clone, Copy)]
 pub enum Picked {
     Place(usize, u64),
     NoNumber,

@@ -1,6 +1,8 @@
 // What giving a range away does with the bounds of a map, and whether a whole range is one owner's:
 // both ask where the ends of the range fall among the bounds. What a map is, and which memory keeps
 // one, is `delegation`'s; `grants` carries a plan out. Nothing is asked of a caller.
+#![tactic(auto)]
+
 ghost use Rattle.std.specs.Prelude.{◌≡◌, ◌-◌, ◌<◌, ◌≤◌, length, get_or};
 ghost use Rattle.delegation.specs.Map.{Whole};
 ghost use Rattle.plans.specs.Plan.{Before, Through, EndsWith, Planned, turned, count};
@@ -9,7 +11,7 @@ use keys::Bound;
 
 // What giving a range away does with the bounds: those from `first` up to `last` go, and in their
 // place come one at lo, one at hi with the owner `after`, both, or neither.
-#[derive(Drop)]
+#[derive(Clone, Copy)]
 pub struct Plan {
     pub first: usize,
     pub last: usize,

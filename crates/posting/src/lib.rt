@@ -1,6 +1,8 @@
 // A message waits in the place that was picked for it (`picking`) and that its datagram was written into.
 // Until it is posted nothing has changed, since what stands in a free place counts for nothing. Nothing is
 // asked of a caller.
+#![tactic(auto)]
+
 ghost use Rattle.posting.specs.Answers.{AfterPost};
 
 use delivery::WORDS;

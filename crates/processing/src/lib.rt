@@ -1,5 +1,7 @@
 // The message in the room is processed: it is read, and the row of document 01's table for its body is carried
 // out.
+#![tactic(auto)]
+
 ghost use Rattle.hosts.specs.Memory.{memory};
 ghost use Rattle.processing.specs.Answers.{AfterProcess};
 

@@ -1,4 +1,6 @@
 // A range of keys picked out of the table of `records`, in rising order.
+#![tactic(auto)]
+
 ghost use Rattle.std.specs.Prelude.{◌+◌, ◌≤◌, length};
 ghost use Rattle.ranges.specs.Answers.{AfterPick};
 ghost use Rattle.ranges.specs.Inner.{Noted};
@@ -7,7 +9,7 @@ use keys::Bound;
 use records::Found;
 
 // What picking out a range answers: how many entries it has, or that they do not fit what is lent.
-#[derive(Drop)]
+#[derive(Clone, Copy)]
 pub enum Picked {
     Count(usize),
     NoRoom,

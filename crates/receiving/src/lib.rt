@@ -1,5 +1,7 @@
 // A datagram arrives (document 01, sections 4 to 6). While the room is taken everything is dropped. An Ack is
 // counted, and a message goes on to `incoming`.
+#![tactic(auto)]
+
 ghost use Rattle.std.specs.Prelude.{◌≡◌, List, ℕ};
 ghost use Rattle.hosts.specs.Memory.{memory};
 ghost use Rattle.receiving.specs.Answers.{AfterReceive};

@@ -6,6 +6,8 @@
 // specs/Answers.antt what each function answers; proofs/Laws.antt has the laws that callers go by.
 // Nothing is asked of a caller: memory that keeps no table gets an answer too, which then says
 // nothing of a table, and no slice is read or written past its end.
+#![tactic(auto)]
+
 mod place;
 mod slots;
 
@@ -15,7 +17,7 @@ use limits::VALUE_MAX;
 use searches::Spot;
 
 // Where a key's value stands in `values`, as its start and its length, or that the key has none.
-#[derive(Drop)]
+#[derive(Clone, Copy)]
 pub enum Found {
     At(usize, usize),
     Nothing,

@@ -1,4 +1,6 @@
 // A Redirect that is sent: a key, and the address of the host that has it.
+#![tactic(auto)]
+
 ghost use Rattle.std.specs.Prelude.{◌<◌};
 ghost use Rattle.message.specs.Message.{redirect};
 ghost use Rattle.sending.specs.Answers.{AfterSend};

@@ -1,5 +1,7 @@
 // The key is another host's: the asker is sent a Redirect to its owner (document 01, section 5). A Get and
 // a Set both lead here.
+#![tactic(auto)]
+
 ghost use Rattle.referring.specs.Answers.{AfterRefer};
 
 use hosts::{Done, Processed, State};

@@ -1,5 +1,7 @@
 // Entries taken out of the table of `records`: one, or those of a range. Keys and slot numbers move, values
 // stay; the slots that become free go behind those in use.
+#![tactic(auto)]
+
 ghost use Rattle.std.specs.Prelude.{◌≤◌, length};
 ghost use Rattle.removals.specs.Answers.{AfterDelete, AfterRemove};
 ghost use Rattle.removals.specs.Inner.{AfterSpan, Sunk};

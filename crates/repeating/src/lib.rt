@@ -1,5 +1,7 @@
 // Sending again (document 01, section 4): all waiting messages are handed out once, to each peer in rising
 // order of numbers. What is answered are the numbers of their places; no datagram is copied.
+#![tactic(auto)]
+
 ghost use Rattle.repeating.specs.Answers.{AfterRepeat};
 
 use delivery::WORDS;
@@ -7,7 +9,7 @@ use hosts::State;
 use resending::Listed;
 
 // How many places were written down, or that fewer were lent for them than there are waiting places.
-#[derive(Drop)]
+#[derive(Clone, Copy)]
 pub enum Repeated {
     Places(usize),
     NoRoom,

@@ -1,4 +1,6 @@
 // A Reply that is sent: a key with its value, or none.
+#![tactic(auto)]
+
 ghost use Rattle.message.specs.Given.{given};
 ghost use Rattle.message.specs.Message.{reply};
 ghost use Rattle.sending.specs.Answers.{AfterSend};

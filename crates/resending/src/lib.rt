@@ -1,20 +1,22 @@
 // All waiting messages, in the order in which they are sent again: to one peer after the other, to each in
 // rising order of numbers, since the receiver takes only the next. No datagram is copied: what is written
 // down is the number of its place.
+#![tactic(auto)]
+
 ghost use Rattle.std.specs.Prelude.{◌≡◌, true, false, suc, ◌≤◌, length};
 ghost use Rattle.resending.specs.Answers.{AfterFind, AfterPeer, AfterAll};
 
 use delivery::WORDS;
 
 // The place of a message.
-#[derive(Drop)]
+#[derive(Clone, Copy)]
 pub enum Found {
     At(usize),
     Nowhere,
 }
 
 // How many places were written down, or that they do not fit what is lent.
-#[derive(Drop)]
+#[derive(Clone, Copy)]
 pub enum Listed {
     Places(usize),
     NoRoom,

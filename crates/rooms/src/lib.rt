@@ -1,6 +1,8 @@
 // The room test of document 01, section 6: is there room for all that a message may need? What there will
 // be is counted, not what there might be at most; a message that would only be dropped needs nothing.
 // Nothing is changed here, and nothing is asked of a caller.
+#![tactic(auto)]
+
 ghost use Rattle.std.specs.Prelude.{◌≡◌};
 ghost use Rattle.rooms.specs.Answers.{Tested};
 ghost use Rattle.rooms.specs.Inner.{Vacant, heard, ShardTested, DelegateTested};
@@ -14,7 +16,7 @@ use peers::Peer;
 use picking::Vacancy;
 
 // Is there room? The place is a hint, where one was found free; if none was looked for, it says nothing.
-#[derive(Drop)]
+#[derive(Clone, Copy)]
 pub struct Verdict {
     pub room: bool,
     pub place: usize,

@@ -1,5 +1,7 @@
 // The count of turns, and the turn for sending again (document 01, section 5). Retransmit acts on every so many of
 // its turns only. The count begins anew when it has acted.
+#![tactic(auto)]
+
 ghost use Rattle.std.specs.Prelude.{◌≡◌};
 ghost use Rattle.rounds.specs.Answers.{AfterAgain, overOf, refusal};
 
@@ -13,7 +15,7 @@ const ROUND: u64 = 3 * RESEND_EVERY;
 
 // What became of a turn: of a datagram, of the message in the room, how many datagrams go out again, or that
 // there was nothing to do. Unfit: what was lent for an Ack or for places is too short, and nothing was done.
-#[derive(Drop)]
+#[derive(Clone, Copy)]
 pub enum Turned {
     Came(Received),
     Did(Processed),
@@ -24,7 +26,7 @@ pub enum Turned {
 
 // The host's numbers after a turn, what became of it, and a place that was seen to be free, as a hint for the
 // turn that processes. It may be any number.
-#[derive(Drop)]
+#[derive(Clone, Copy)]
 pub struct Ended {
     pub state: State,
     pub outcome: Turned,

@@ -1,5 +1,7 @@
 // Document 01's table, row by row, each row a crate of its own. A Delegate or a Shard stays while the count of
 // transfers is at its limit.
+#![tactic(auto)]
+
 ghost use Rattle.hosts.specs.Memory.{memory};
 ghost use Rattle.rows.specs.Answers.{AfterBody};
 

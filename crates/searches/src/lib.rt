@@ -1,12 +1,14 @@
 // Searches in a column of `columns` that rises strictly, by halving. What each function answers stands in
 // specs/Search.antt; on a column that does not rise the answer is a place all the same.
+#![tactic(auto)]
+
 ghost use Rattle.columns.specs.Column.{Upto};
 ghost use Rattle.searches.specs.Search.{Before, Sought};
 
 use keys::Bound;
 
 // Where a key stands in a column that rises, or before which place it belongs.
-#[derive(Drop)]
+#[derive(Clone, Copy)]
 pub enum Spot {
     Old(usize),
     New(usize),

@@ -1,5 +1,7 @@
 // Can what is lent serve a host, by lengths alone (document 01, section 6)? And the numbers of a host that has
 // only started.
+#![tactic(auto)]
+
 ghost use Rattle.std.specs.Prelude.{◌≡◌};
 ghost use Rattle.serving.specs.Answers.{Tells, Datagrams, Lengths, begun};
 

@@ -1,5 +1,7 @@
 // The tests on the value of a Set (document 01, section 5): the room test looks at its length alone, the
 // processing also whether it stands in the datagram.
+#![tactic(auto)]
+
 ghost use Rattle.sets.specs.Answers.{IsSound, TooLong};
 
 use limits::VALUE_MAX;

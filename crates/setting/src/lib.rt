@@ -1,6 +1,8 @@
 // The rows of the Set in document 01, section 5: a value that is too long is dropped; where the key is the
 // host's own it is set, and else the asker is sent to the owner. The number for the answer is picked first,
 // so a request that can't be answered is not carried out.
+#![tactic(auto)]
+
 ghost use Rattle.hosts.specs.Memory.{memory};
 ghost use Rattle.sets.specs.Answers.{Sound};
 ghost use Rattle.setting.specs.Answers.{AfterSet, AfterSettle};

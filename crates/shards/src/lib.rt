@@ -1,5 +1,7 @@
 // The tests on a Shard (document 01, section 5), which the room test and the processing share: who gets the
 // range, is the range this host's, can it be moved, and does the map fit what is lent then. Nothing is changed here.
+#![tactic(auto)]
+
 ghost use Rattle.shards.specs.Answers.{AfterRecipient, HasKey, Mine, Movable, Fits};
 
 use format::Part;

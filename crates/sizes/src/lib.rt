@@ -1,11 +1,13 @@
 // How many bytes a list of entries takes in a message, told before it is written.
+#![tactic(auto)]
+
 ghost use Rattle.sizes.specs.Sizes.{AfterSize};
 
 use format::WIDTH;
 use limits::BYTES_MAX;
 
 // The bytes of a list of entries.
-#[derive(Drop)]
+#[derive(Clone, Copy)]
 pub enum Size {
     Is(usize),
     TooLong,

@@ -1,12 +1,14 @@
 // What a message that arrives is to its host (document 01, section 4): one for another host, one that was taken
 // before, the next from its sender, or one from the future.
+#![tactic(auto)]
+
 ghost use Rattle.sorting.specs.Answers.{AfterSort};
 
 use format::Part;
 use hosts::State;
 
 // The peer of the next message is a hint, where its sender was found; of a sender that was not it says nothing.
-#[derive(Drop)]
+#[derive(Clone, Copy)]
 pub enum Kind {
     Elsewhere,
     Again,

@@ -1,6 +1,8 @@
 // Starting a host (document 01, sections 5 and 6): at least one address on the list, no two equal, each short
 // enough, the own one among them; the first is the owner of everything. All is tested before anything is
 // written, so a refusal leaves memory as it was.
+#![tactic(auto)]
+
 ghost use Rattle.std.specs.Prelude.{ℕ, ◌≤◌, ◌<◌, length};
 ghost use Rattle.strings.specs.Strings.{WellFormed};
 ghost use Rattle.distinct.specs.Distinct.{string};
@@ -15,7 +17,7 @@ use hosts::State;
 use limits::BYTES_MAX;
 
 // The new host's numbers; or that no host starts with such a list; or that what is lent does not serve.
-#[derive(Drop)]
+#[derive(Clone, Copy)]
 pub enum Started {
     Now(State),
     NoHost,

@@ -1,5 +1,7 @@
 // A message that stays in the room (document 01, section 5): a Delegate or a Shard does while the count of
 // transfers is at its limit.
+#![tactic(auto)]
+
 ghost use Rattle.std.specs.Prelude.{◌≡◌};
 ghost use Rattle.hosts.specs.declared.Done.{Done};
 ghost use Rattle.staying.specs.Answers.{Many, unchanged};

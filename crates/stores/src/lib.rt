@@ -1,5 +1,7 @@
 // Setting a key's value in the table of `records`: it goes where the key's value stands, or the key is
 // new and gets the first free slot. Nothing is asked of a caller.
+#![tactic(auto)]
+
 ghost use Rattle.std.specs.Prelude.{◌≤◌, length};
 ghost use Rattle.limits.specs.Limits.{valueMax};
 ghost use Rattle.records.specs.Memory.{Shape};
@@ -11,7 +13,7 @@ use searches::Spot;
 
 // What setting an entry answers: how many entries there are now, or a refusal, and then nothing has
 // changed.
-#[derive(Drop)]
+#[derive(Clone, Copy)]
 pub enum Stored {
     Entries(usize),
     Full,

@@ -1,6 +1,8 @@
 // A key of the host's own is set: the value is stored, or the key is taken out, and the Reply has what was
 // sent (document 01, section 5). The place and the number of the Reply were picked before, so the request
 // is carried out only if it can be answered. A Set that finds the table full is dropped.
+#![tactic(auto)]
+
 ghost use Rattle.storing.specs.Answers.{AfterRemove, AfterPut};
 
 use hosts::{Done, Processed, State};

@@ -2,6 +2,8 @@
 // and how long it is. Addresses of hosts and values of entries come in this form, and before any of them
 // is looked at, `inside` tells whether they are there at all, and `none_longer` whether one is too long. What
 // they answer stands in specs/Strings.antt; nothing is asked of a caller. `distinct` compares the strings.
+#![tactic(auto)]
+
 ghost use Rattle.strings.specs.Strings.{Inside, NoneLonger};
 
 // Are the columns there, and does each of the m strings lie within that many bytes?

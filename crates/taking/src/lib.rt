@@ -1,5 +1,7 @@
 // A message is taken into the room (document 01, sections 4 and 5): a new sender gets a place among the
 // peers, the number counts as received, and the datagram is copied into the room, once.
+#![tactic(auto)]
+
 ghost use Rattle.taking.specs.Answers.{AfterTake};
 ghost use Rattle.taking.specs.Inner.{AfterSeat, AfterJoin};
 
@@ -8,7 +10,7 @@ use hosts::State;
 use peers::{Added, Peer};
 
 // The host's numbers after a message was taken, or that there is no room for it.
-#[derive(Drop)]
+#[derive(Clone, Copy)]
 pub enum Taken {
     Now(State),
     NoRoom,
@@ -53,7 +55,7 @@ pub fn take(
 }
 
 // The number of an address, and how many peers there are then; or that there is no place for a new one.
-#[derive(Drop)]
+#[derive(Clone, Copy)]
 enum Seat {
     At(usize, usize),
     Full,

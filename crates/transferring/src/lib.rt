@@ -1,4 +1,6 @@
 // A Delegate that is sent: a range and its entries, handed in as columns.
+#![tactic(auto)]
+
 ghost use Rattle.message.specs.Message.{delegate};
 ghost use Rattle.delegating.specs.Columns.{Columns, entered};
 ghost use Rattle.sending.specs.Answers.{AfterSend};

@@ -1,5 +1,7 @@
 // Turns: receive, process, retransmit, and again from the front (document 01, section 5). Retransmit acts on
 // every so many of its turns only (`rounds`).
+#![tactic(auto)]
+
 ghost use Rattle.hosts.specs.Memory.{memory};
 ghost use Rattle.turning.specs.Answers.{AfterTurn};
 

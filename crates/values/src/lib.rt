@@ -1,17 +1,19 @@
 // A value or none, and a key with one, read at a place of a datagram's bytes: the fields that a Set and
 // a Reply share. Where the value stands is told, and its bytes stay there. `fields` reads bounds.
+#![tactic(auto)]
+
 ghost use Rattle.values.specs.Answers.{ReadValue, ReadKeyed};
 
 use format::{NumberRead, TextRead, WIDTH};
 use message::ValueView;
 
-#[derive(Drop)]
+#[derive(Clone, Copy)]
 pub enum ValueRead {
     Is(ValueView, usize),
     Missing,
 }
 
-#[derive(Drop)]
+#[derive(Clone, Copy)]
 pub enum KeyedRead {
     Is(u64, ValueView, usize),
     Missing,

@@ -1,5 +1,7 @@
 // The parts of a message written into lent bytes: a byte, a number, a byte string (document 01,
 // section 3). Each answers whether it fits there; if not, nothing has changed.
+#![tactic(auto)]
+
 ghost use Rattle.std.specs.Prelude.{◌≡◌, [], ◌∷◌, ◌+◌, ◌≤◌, length};
 ghost use Rattle.memory.specs.Bytes.{placed, Copied};
 ghost use Rattle.format.specs.Number.{digits, width};
