@@ -1,0 +1,16 @@
+-- `answering::reply` meets its contract.
+-- Assumes nothing.
+use mathlib.Core.Path.{refl}
+use Prim.Native.Nat.{◌<◌}
+use native.Mathlib.Omega.{arith}
+use Rattle.format.specs.Number.{numbers}
+use Rattle.message.specs.Message.{reply}
+use Rattle.message.specs.Given.{given}
+use Rattle.fronts.proofs.Fronts.{message_written}
+use Rattle.answering.proofs.reply.Goals as goal
+
+pub returns : goal.returns
+returns c =
+    let a = c.args in
+    let known : a.n < numbers = omega (arith, c.ranges) in
+    message_written (reply a.key (given a.some a.v.now)) a.n a.to.now 2 (a.key, given a.some a.v.now) a.d.now known (omega arith) refl c.keyed.ensures
