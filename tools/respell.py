@@ -3,7 +3,8 @@
 
 usage: tools/respell.py          at the top of the repository, once, after the kit's port.py
 
-A dash in a name that specs/ or proofs/*.antt declares becomes an underscore. Names of answers (proofs/FUNCTION/*.antt) stay, since goals name them.
+A dash in a name that specs/ or proofs/*.antt declares becomes an underscore, and so does the seam before a capital in a name that begins with a small
+letter. Names of answers (proofs/FUNCTION/*.antt) stay, since goals name them.
 Where two names would fall together, SPECIAL has another. A name that a file brings from the logic's libraries stays in that file.
 """
 import os
@@ -14,7 +15,18 @@ DECLARED = re.compile(r'\s*(?:(?:abbrev|pub|unfoldable|data|record|module|let|wh
 BINDER = re.compile(r'(?<!\S)(?:let|λ)\s+([^\s(){}.;,@"]+)')
 # a lemma that would have its function's name gets _lem; a fact is spelled as a type
 SPECIAL = {"last-of": "last_of_lem", "key-at": "key_at_lem", "value-at": "value_at_lem"}
-ONE_FILE = {"crates/upstream/proofs/Keys.antt": {"told": "Told"}}
+SPECIAL |= {"ackOutcome": "ack_outcome_of", "turnedPlace": "turned_place_of", "processedPlace": "processed_place_of", "getD_row": "get_or_row"}
+LEMMAS = {
+    "crates/upstream/proofs/Views.antt": ["ack-of"],
+    "crates/upstream/proofs/Receives.antt": ["ack-of"],
+    "crates/upstream/proofs/Told.antt": ["on-number"],
+    "crates/protocol/proofs/Whole.antt": ["key-in"],
+    "crates/world/proofs/Claimed.antt": ["way-claims", "transfer-claims", "host-claims"],
+    "crates/world/proofs/Carried.antt": ["in-room"],
+    "crates/processing/proofs/Laws.antt": ["is-message"],
+}
+ONE_FILE = {path: {old: name.replace("-", "_") + "_lem" for name in names for old in (name, name.replace("-", "_"))} for path, names in LEMMAS.items()}
+ONE_FILE["crates/upstream/proofs/Keys.antt"] = {"told": "Told"}
 
 
 def files(top, *endings):
@@ -64,6 +76,8 @@ def main():
             for name in declared(read(path)):
                 if "-" in name and re.search(r"\w", name) and not name.startswith("-"):
                     table[name] = SPECIAL.get(name, name.replace("-", "_"))
+                elif re.match(r"[a-z]", name) and re.search(r"[a-z0-9][A-Z]", name):
+                    table[name] = SPECIAL.get(name, re.sub(r"(?<=[a-z0-9])([A-Z])", lambda m: "_" + m.group(1).lower(), name))
     changed = 0
     paths = list(files("crates", ".antt", ".rt", ".edit")) + list(files("docs", ".md")) + ["README.md"]
     for path in paths:

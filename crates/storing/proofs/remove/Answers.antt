@@ -1,0 +1,18 @@
+-- `storing::remove` meets its contract.
+-- Assumes nothing.
+use mathlib.Core.Path.{refl}
+use Prim.Native.Nat.{◌-◌}
+use native.Mathlib.Omega.{arith}
+use Rattle.storing.proofs.Laws.{settled_as}
+use Rattle.storing.proofs.remove.Goals as goal
+
+pub shape_of-keys : goal.shape_of-keys
+shape_of-keys c =
+    c.keys-1.given
+
+pub returns : goal.returns
+returns c =
+    record {
+      is = λ lows owners lens values.
+          settled_as (omega (arith, c.ranges, c.well_formed)) (omega (arith, c.ranges, c.well_formed)) (c.delete-n.ensures.is lens values) (λ h C. refl) c.reply-sent.ensures c.filled.ensures c.answered.ensures;
+    }
