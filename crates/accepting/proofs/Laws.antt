@@ -9,7 +9,7 @@ use native.Mathlib.Omega.{arith}
 use lib.ListN.{length, get_or}
 use lib.Dec.{ltb, leb}
 use borrow.Author.Tests.{lt-ltb, le-ltb, le-leb, lt-leb}
-use Rattle.limits.specs.Limits.{entriesLimit, numbers}
+use Rattle.limits.specs.Limits.{entries_limit, numbers}
 use Rattle.keys.specs.declared.Bound.{Bound}
 use Rattle.keys.specs.Bound.{below}
 use Rattle.columns.proofs.Cases.{lt_or_ge}
@@ -26,10 +26,10 @@ use Rattle.entered.specs.Entered.{Entered}
 use Rattle.entries.specs.Answers.{AfterReplace}
 use Rattle.protocol.specs.Address.{among}
 use Rattle.protocol.specs.Records.{look, replacing}
-use Rattle.protocol.specs.Owners.{ownerOf, giving}
+use Rattle.protocol.specs.Owners.{owner_of, giving}
 use Rattle.protocol.specs.State.{Host, Letter}
 use Rattle.protocol.specs.Delivery.{Step}
-use Rattle.protocol.specs.Process.{anyLong, unfit, onDelegate}
+use Rattle.protocol.specs.Process.{any_long, unfit, on_delegate}
 use Rattle.protocol.proofs.Entries.{above_replacing}
 use Rattle.hosts.specs.declared.State.{State}
 use Rattle.hosts.specs.declared.Done.{Done}
@@ -37,7 +37,7 @@ use Rattle.hosts.specs.declared.Processed.TheVariants.{Accepted}
 use Rattle.hosts.specs.Memory.{Memory, memory}
 use Rattle.hosts.specs.Limits.{Bounded}
 use Rattle.hosts.specs.Keeps.{Core}
-use Rattle.hosts.specs.Answers.{moved, droppedOf, Does, Heard}
+use Rattle.hosts.specs.Answers.{moved, dropped_of, Does, Heard}
 use Rattle.hosts.proofs.Core.{name_is}
 use Rattle.hosts.proofs.Says.{says_done}
 use Rattle.hosts.proofs.Maps.{among_hosts, giving_is, giving_in, set_done}
@@ -73,7 +73,7 @@ entries_taken {k} {bounds} n e t w = record {
       ap (λ (u : State). record { state = u; outcome = Accepted }) (w.1 small ∙ ap (moved k bounds) same);
 }
 
-pub entries_dropped : {k : State} {bounds : ℕ} {q : Replaced} (r : Done) → stored q ≡ 0 → r ≡ droppedOf k → AfterEntries k bounds q r
+pub entries_dropped : {k : State} {bounds : ℕ} {q : Replaced} (r : Done) → stored q ≡ 0 → r ≡ dropped_of k → AfterEntries k bounds q r
 entries_dropped r z e = record { freed = ap (λ (u : Done). u.state.len) e; is = λ x p small. absurd (omega (arith, z, ap stored p)) }
 
 -- ---- when it is dropped
@@ -92,13 +92,13 @@ tests true true true false = refl
 
 -- it is unfit if the numbers say so, or a value is too long
 pub unfit_is : (m : Memory) (k : State) (h : Host) (C : Core m k h) (l : Letter) → Heard m k l → (lo hi : Bound) (es : List Entry)
-    → unfit h l lo hi es ≡ not (below lo hi && (ltb (length es) entriesLimit && ltb k.from k.hosts)) || anyLong es
+    → unfit h l lo hi es ≡ not (below lo hi && (ltb (length es) entries_limit && ltb k.from k.hosts)) || any_long es
 unfit_is m k h C l H lo hi es =
     let a : among l.from h.hosts ≡ ltb k.from k.hosts =
     subst (λ (x : Address). among x h.hosts ≡ ltb k.from k.hosts) (sym (name_is m k h C k.from H.from_in) ∙ H.from_is)
     (among_hosts m k h C k.from H.from_in) in
-    ap₂ (λ (x y : Bool). not (below lo hi) || (x || (anyLong es || not y))) (leb_not (length es) entriesLimit) a
-    ∙ tests (below lo hi) (ltb (length es) entriesLimit) (ltb k.from k.hosts) (anyLong es)
+    ap₂ (λ (x y : Bool). not (below lo hi) || (x || (any_long es || not y))) (leb_not (length es) entries_limit) a
+    ∙ tests (below lo hi) (ltb (length es) entries_limit) (ltb k.from k.hosts) (any_long es)
 
 -- ---- the columns list the entries
 
@@ -175,14 +175,14 @@ module _ (m : Memory) (k : State) (h : Host) (C : Core m k h) (s : List ℕ) (lo
       → AfterSet m.lows m.owners k.bounds lo hi k.me (Bounds bounds) lows owners
       → AfterReplace m.keys m.slots m.lens m.values k.entries lo hi ks ats ls s n (Entries entries) keys slots lens values
       → (l : Letter) (r : Done) → r ≡ record { state = moved k bounds entries; outcome = Accepted }
-      → Does (memory lows owners keys slots lens values m.nameLens m.names m.counts m.places m.mail) r.state r.outcome
-      (onDelegate false h l lo hi es)
+      → Does (memory lows owners keys slots lens values m.name_lens m.names m.counts m.places m.mail) r.state r.outcome
+      (on_delegate false h l lo hi es)
   does_taken bounds entries lows owners keys slots lens values A B l r e =
-      let owner : (x : ℕ) → C.N (updated lo hi k.me C.f x) ≡ ownerOf (giving lo hi h.me h.owners) x = λ x.
-      subst (λ (a : Address). C.N (updated lo hi k.me C.f x) ≡ ownerOf (giving lo hi a h.owners) x) C.says.me_is
+      let owner : (x : ℕ) → C.N (updated lo hi k.me C.f x) ≡ owner_of (giving lo hi h.me h.owners) x = λ x.
+      subst (λ (a : Address). C.N (updated lo hi k.me C.f x) ≡ owner_of (giving lo hi a h.owners) x) C.says.me_is
       (giving_is m k h C lo hi k.me C.says.own x) in
       subst
-      (λ (u : Done). Does (memory lows owners keys slots lens values m.nameLens m.names m.counts m.places m.mail) u.state u.outcome (onDelegate false h l lo hi es))
+      (λ (u : Done). Does (memory lows owners keys slots lens values m.name_lens m.names m.counts m.places m.mail) u.state u.outcome (on_delegate false h l lo hi es))
       (sym e)
       (record {
         core = record {

@@ -1,7 +1,7 @@
 -- What the private functions answer. A caller of the crate need not read this.
 -- Assumes nothing.
 use Rattle.std.specs.Prelude.{◌≡◌, false, List, ℕ, suc, ◌-◌, ◌≤◌, ◌<◌, length}
-use Rattle.limits.specs.Limits.{transfersLimit, numbers}
+use Rattle.limits.specs.Limits.{transfers_limit, numbers}
 use Rattle.keys.specs.declared.Bound.{Bound}
 use Rattle.format.specs.Format.{Entry, Above}
 use Rattle.delegation.specs.Map.{room}
@@ -10,7 +10,7 @@ use Rattle.entries.specs.declared.Replaced.TheVariants.{Entries}
 use Rattle.protocol.specs.Records.{replacing}
 use Rattle.protocol.specs.Owners.{giving}
 use Rattle.protocol.specs.State.{Host, Letter}
-use Rattle.protocol.specs.Process.{onDelegate}
+use Rattle.protocol.specs.Process.{on_delegate}
 use Rattle.hosts.specs.declared.State.{State}
 use Rattle.hosts.specs.declared.Processed.TheVariants.{Accepted}
 use Rattle.hosts.specs.declared.Done.{Done}
@@ -24,7 +24,7 @@ use Rattle.delegates.specs.Answers.{Filled}
 
 -- the columns are a list with rising keys, and there is room for what there will be
 pub record Ready (lows owners slots s : List ℕ) (lo hi : Bound) (ks ats ls : List ℕ) (m : ℕ) (h : Host) (es : List Entry) : Type 0 where
-  pub few : h.transfers < transfersLimit - 2
+  pub few : h.transfers < transfers_limit - 2
   pub count : length es ≡ m
   pub above : Above 0 es
   pub filled : Filled s es ks ats ls
@@ -35,11 +35,11 @@ pub record Ready (lows owners slots s : List ℕ) (lo hi : Bound) (ks ats ls : L
 pub record AfterTake (lows owners keys slots lens values : List ℕ) (k : State) (s : List ℕ) (lo hi : Bound) (ks ats ls : List ℕ) (m : ℕ) (r : Done)
     (lows' owners' keys' slots' lens' values' : List ℕ) : Type 0 where
   pub freed : r.state.len ≡ 0
-  pub is : (nameLens names counts places mail : List ℕ) (h : Host) (l : Letter) (es : List Entry)
-      → Core (memory lows owners keys slots lens values nameLens names counts places mail) k h
+  pub is : (name_lens names counts places mail : List ℕ) (h : Host) (l : Letter) (es : List Entry)
+      → Core (memory lows owners keys slots lens values name_lens names counts places mail) k h
       → Ready lows owners slots s lo hi ks ats ls m h es
-      → Does (memory lows' owners' keys' slots' lens' values' nameLens names counts places mail) r.state r.outcome
-      (onDelegate false h l lo hi es)
+      → Does (memory lows' owners' keys' slots' lens' values' name_lens names counts places mail) r.state r.outcome
+      (on_delegate false h l lo hi es)
 
 -- the entries are stored, and so the transfer is taken, or the room is free and that is all
 pub record AfterEntries (k : State) (bounds : ℕ) (q : Replaced) (r : Done) : Type 0 where

@@ -18,22 +18,22 @@ use Rattle.hosts.specs.Memory.{memory}
 use Rattle.hosts.proofs.Arrivals.{no_peer, a_peer, acknowledged_as, core_confirmed}
 use Rattle.acknowledging.specs.Answers.{AfterAck}
 
-module _ {nameLens names counts places : List ℕ} {k : State} {a : Address} {x : ℕ} where
+module _ {name_lens names counts places : List ℕ} {k : State} {a : Address} {x : ℕ} where
   -- no peer has the address
-  pub unknown : AfterFind nameLens names k.width k.peers a Unknown → AfterAck nameLens names counts places k a x false counts places
+  pub unknown : AfterFind name_lens names k.width k.peers a Unknown → AfterAck name_lens names counts places k a x false counts places
   unknown F = record {
     counts_is = λ lows owners keys slots lens values mail h C.
-        rw (no_peer (memory lows owners keys slots lens values nameLens names counts places mail) k h C a (F.is C.N C.names_kept)) refl;
+        rw (no_peer (memory lows owners keys slots lens values name_lens names counts places mail) k h C a (F.is C.N C.names_kept)) refl;
     arrived = λ e. absurd (false≢true e);
     stale = λ e. (refl, refl);
   }
 
-  module _ {i : ℕ} {r : Counts} (F : AfterFind nameLens names k.width k.peers a (Is i)) (G : Counted counts i r) where
+  module _ {i : ℕ} {r : Counts} (F : AfterFind name_lens names k.width k.peers a (Is i)) (G : Counted counts i r) where
     -- the peer has acknowledged as much before
-    pub nothing_new : x ≤ r.acknowledged → AfterAck nameLens names counts places k a x false counts places
+    pub nothing_new : x ≤ r.acknowledged → AfterAck name_lens names counts places k a x false counts places
     nothing_new l = record {
       counts_is = λ lows owners keys slots lens values mail h C.
-          let m = memory lows owners keys slots lens values nameLens names counts places mail in
+          let m = memory lows owners keys slots lens values name_lens names counts places mail in
           let is = F.is C.N C.names_kept in
           let t : among a h.peers ≡ true = a_peer m k h C i is.0 a is.1 in
           let e : r.acknowledged ≡ h.acknowledged a = acknowledged_as m k h C i is.0 a is.1 G in
@@ -44,16 +44,16 @@ module _ {nameLens names counts places : List ℕ} {k : State} {a : Address} {x 
 
     -- the peer acknowledges more
     pub counted : {counts' places' : List ℕ} → r.acknowledged < x → AfterConfirm counts places i x counts' places'
-        → AfterAck nameLens names counts places k a x true counts' places'
+        → AfterAck name_lens names counts places k a x true counts' places'
     counted {counts'} {places'} l A = record {
       counts_is = λ lows owners keys slots lens values mail h C.
-          let m = memory lows owners keys slots lens values nameLens names counts places mail in
+          let m = memory lows owners keys slots lens values name_lens names counts places mail in
           let is = F.is C.N C.names_kept in
           let t : among a h.peers ≡ true = a_peer m k h C i is.0 a is.1 in
           let e : r.acknowledged ≡ h.acknowledged a = acknowledged_as m k h C i is.0 a is.1 G in
           rw t (sym (lt-ltb (h.acknowledged a) x (omega (arith, l, e))));
       arrived = λ e lows owners keys slots lens values mail h C.
-          let m = memory lows owners keys slots lens values nameLens names counts places mail in
+          let m = memory lows owners keys slots lens values name_lens names counts places mail in
           let is = F.is C.N C.names_kept in
           let e : r.acknowledged ≡ C.P.acknowledged i = G.acknowledged places mail k.size k.peers C.P C.post_kept is.0 in
           let q : C.P.acknowledged i < x = omega (arith, l, e) in

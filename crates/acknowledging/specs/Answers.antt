@@ -10,11 +10,11 @@ use Rattle.hosts.specs.Memory.{memory}
 use Rattle.hosts.specs.Keeps.{Core}
 
 -- r says whether the Ack of x from the address a counts. If it does, what waits up to x is gone; else nothing has changed
-pub record AfterAck (nameLens names counts places : List ℕ) (k : State) (a : Address) (x : ℕ) (r : Bool) (counts' places' : List ℕ) : Type 0 where
+pub record AfterAck (name_lens names counts places : List ℕ) (k : State) (a : Address) (x : ℕ) (r : Bool) (counts' places' : List ℕ) : Type 0 where
   pub counts_is : (lows owners keys slots lens values mail : List ℕ) (h : Host)
-      → Core (memory lows owners keys slots lens values nameLens names counts places mail) k h
+      → Core (memory lows owners keys slots lens values name_lens names counts places mail) k h
       → r ≡ among a h.peers && ltb (h.acknowledged a) x
   pub arrived : r ≡ true → (lows owners keys slots lens values mail : List ℕ) (h : Host)
-      → Core (memory lows owners keys slots lens values nameLens names counts places mail) k h
-      → Core (memory lows owners keys slots lens values nameLens names counts' places' mail) k (confirmed a x h)
+      → Core (memory lows owners keys slots lens values name_lens names counts places mail) k h
+      → Core (memory lows owners keys slots lens values name_lens names counts' places' mail) k (confirmed a x h)
   pub stale : r ≡ false → (counts' ≡ counts) × (places' ≡ places)

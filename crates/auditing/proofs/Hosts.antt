@@ -13,7 +13,7 @@ use Rattle.records.specs.Memory.{Keeps as KeepsTable, value_at}
 use Rattle.delegation.specs.Map.{Keeps as KeepsMap}
 use Rattle.peers.specs.Names.{Keeps as KeepsNames}
 use Rattle.delivery.specs.Post.{Post}
-use Rattle.delivery.specs.Memory.{Keeps as KeepsPost, datagramAt, number_at}
+use Rattle.delivery.specs.Memory.{Keeps as KeepsPost, datagram_at, number_at}
 use Rattle.protocol.specs.Address.{among}
 use Rattle.protocol.specs.State.{Host, Letter}
 use Rattle.hosts.specs.declared.State.{State}
@@ -45,8 +45,8 @@ module _ {A : Type 0} (N : ℕ → Address) (n : ℕ) (z : A) (g : ℕ → A) wh
 
 -- ---- the host
 
-abbrev pub hostOf : Memory → State → (ℕ → Address) → Post → Option Letter → Host
-hostOf m k N P o = record {
+abbrev pub host_of : Memory → State → (ℕ → Address) → Post → Option Letter → Host
+host_of m k N P o = record {
   me = N k.me;
   hosts = firsts N k.hosts;
   owners = record { first = N 0; grants = given N m.lows m.owners k.bounds };
@@ -61,7 +61,7 @@ hostOf m k N P o = record {
 }
 
 module _ (m : Memory) (k : State) (N : ℕ → Address) (f : ℕ → ℕ) (T : Table) (P : Post) (sized : Sized k.width k.size)
-    (few : k.hosts ≤ k.peers) (own : k.me < k.hosts) (KN : KeepsNames m.nameLens m.names k.width k.peers N)
+    (few : k.hosts ≤ k.peers) (own : k.me < k.hosts) (KN : KeepsNames m.name_lens m.names k.width k.peers N)
     (KM : KeepsMap m.lows m.owners k.bounds f) (within : (x : ℕ) → f x < k.hosts)
     (KT : KeepsTable m.keys m.slots m.lens m.values k.entries T)
     (KP : KeepsPost m.counts m.places m.mail k.size k.peers P) (M : Mailed m.places m.mail k.size N) where
@@ -71,20 +71,20 @@ module _ (m : Memory) (k : State) (N : ℕ → Address) (f : ℕ → ℕ) (T : T
       let w = KP.holding.here i j h q in
       let e : number_at m.places w.0 ≡ suc (P.acknowledged i) + j = omega (arith, w.3) in
       subst (λ (s : List ℕ). MessageTo (suc (P.acknowledged i) + j) (N i) s) w.4
-      (subst (λ (x : ℕ). MessageTo x (N i) (datagramAt m.places m.mail k.size w.0)) e (M w.0 w.1 i w.2))
+      (subst (λ (x : ℕ). MessageTo x (N i) (datagram_at m.places m.mail k.size w.0)) e (M w.0 w.1 i w.2))
 
   letters : (i : ℕ) → i < k.peers
       → (P.waiting i ≡ datagrams (suc (P.acknowledged i)) (N i) (bodies (P.waiting i))) × AllValid (suc (P.acknowledged i)) (N i) (bodies (P.waiting i))
   letters i h = bodies_are (suc (P.acknowledged i)) (N i) (P.waiting i) (messages i h)
 
   module _ (o : Option Letter) where
-    acknowledged_as : (i : ℕ) → i < k.peers → P.acknowledged i ≡ (hostOf m k N P o).acknowledged (N i)
+    acknowledged_as : (i : ℕ) → i < k.peers → P.acknowledged i ≡ (host_of m k N P o).acknowledged (N i)
     acknowledged_as i q = sym (known_peer N k.peers 0 P.acknowledged KN.distinct i q)
 
-    waiting_as : (i : ℕ) → i < k.peers → bodies (P.waiting i) ≡ (hostOf m k N P o).waiting (N i)
+    waiting_as : (i : ℕ) → i < k.peers → bodies (P.waiting i) ≡ (host_of m k N P o).waiting (N i)
     waiting_as i q = sym (known_peer N k.peers [] (λ i. bodies (P.waiting i)) KN.distinct i q)
 
-    pub made_core : Core m k (hostOf m k N P o)
+    pub made_core : Core m k (host_of m k N P o)
     made_core = record {
       N = N;
       f = f;
@@ -118,14 +118,14 @@ module _ (m : Memory) (k : State) (N : ℕ → Address) (f : ℕ → ℕ) (T : T
       turns_is = refl;
     }
 
-    pub made_sendable : Sendable (hostOf m k N P o)
+    pub made_sendable : Sendable (host_of m k N P o)
     made_sendable a = go (among a (firsts N k.peers)) refl
       where
-        go : (t : Bool) → among a (firsts N k.peers) ≡ t → AllValid (suc ((hostOf m k N P o).acknowledged a)) a ((hostOf m k N P o).waiting a)
+        go : (t : Bool) → among a (firsts N k.peers) ≡ t → AllValid (suc ((host_of m k N P o).acknowledged a)) a ((host_of m k N P o).waiting a)
         go true e =
             let w = firsts_among N k.peers a e in
-            subst (λ (b : Address). AllValid (suc ((hostOf m k N P o).acknowledged b)) b ((hostOf m k N P o).waiting b)) w.2
-            (subst (λ (l : List Body). AllValid (suc ((hostOf m k N P o).acknowledged (N w.0))) (N w.0) l) (waiting_as w.0 w.1)
+            subst (λ (b : Address). AllValid (suc ((host_of m k N P o).acknowledged b)) b ((host_of m k N P o).waiting b)) w.2
+            (subst (λ (l : List Body). AllValid (suc ((host_of m k N P o).acknowledged (N w.0))) (N w.0) l) (waiting_as w.0 w.1)
             (subst (λ (x : ℕ). AllValid (suc x) (N w.0) (bodies (P.waiting w.0))) (acknowledged_as w.0 w.1)
             (letters w.0 w.1).1))
         go false e = rw e tt
@@ -148,8 +148,8 @@ module _ (m : Memory) (k : State) (h : Host) (C : Core m k h) (S : Sendable h) w
       let l = ap length (C.says.waiting_is i o.0) ∙ length_datagrams (suc (h.acknowledged (C.N i))) (C.N i) (h.waiting (C.N i)) in
       let r = datagrams_are (suc (h.acknowledged (C.N i))) (C.N i) (h.waiting (C.N i)) (S (C.N i)) j (omega (arith, q, l)) in
       let y : suc (h.acknowledged (C.N i)) + j ≡ x = omega (arith, n, C.says.acknowledged_is i o.0) in
-      let d : get_or (datagrams (suc (h.acknowledged (C.N i))) (C.N i) (h.waiting (C.N i))) j [] ≡ datagramAt m.places m.mail k.size p =
+      let d : get_or (datagrams (suc (h.acknowledged (C.N i))) (C.N i) (h.waiting (C.N i))) j [] ≡ datagram_at m.places m.mail k.size p =
       sym (ap (λ (l : List (List ℕ)). get_or l j []) (C.says.waiting_is i o.0)) ∙ sym w.4
-      ∙ ap (datagramAt m.places m.mail k.size) s in
+      ∙ ap (datagram_at m.places m.mail k.size) s in
       subst (λ (t : List ℕ). MessageTo x (C.N i) t) d
       (subst (λ (z : ℕ). MessageTo z (C.N i) (get_or (datagrams (suc (h.acknowledged (C.N i))) (C.N i) (h.waiting (C.N i))) j [])) y r)

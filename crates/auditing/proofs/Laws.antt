@@ -17,7 +17,7 @@ use Rattle.audits_room.specs.Answers.{Valid as ValidRoom}
 use Rattle.auditing.specs.Sendable.{Sendable}
 use Rattle.auditing.specs.Answers.{Audited}
 use Rattle.auditing.specs.Inner.{Agree, Agreeing}
-use Rattle.auditing.proofs.Hosts.{hostOf, made_core, made_sendable, core_mailed}
+use Rattle.auditing.proofs.Hosts.{host_of, made_core, made_sendable, core_mailed}
 
 -- ---- the plain numbers
 
@@ -36,7 +36,7 @@ module _ {m : Memory} {k : State} {room : List ℕ} where
   no_numbers A e =
       refuted (λ h K S. A.no e (record { sized = K.core.sized; few = K.core.says.few; own = K.core.says.own }))
 
-  pub no_names : {r : Bool} → ValidNames m.nameLens m.names k.width k.peers r → r ≡ false → Audited m k room false
+  pub no_names : {r : Bool} → ValidNames m.name_lens m.names k.width k.peers r → r ≡ false → Audited m k room false
   no_names A e = refuted (λ h K S. A.no e K.core.N K.core.names_kept)
 
   pub no_map : {r : Bool} → ValidMap m.lows m.owners k.bounds k.hosts r → r ≡ false → Audited m k room false
@@ -48,16 +48,16 @@ module _ {m : Memory} {k : State} {room : List ℕ} where
   pub no_post : {r : Bool} → ValidPost m.counts m.places m.mail k.size k.peers r → r ≡ false → Audited m k room false
   no_post A e = refuted (λ h K S. A.no e K.core.P K.core.post_kept)
 
-  pub no_mail : {r : Bool} → ValidMail m.nameLens m.names m.places m.mail k.width k.size r → r ≡ false → Audited m k room false
+  pub no_mail : {r : Bool} → ValidMail m.name_lens m.names m.places m.mail k.width k.size r → r ≡ false → Audited m k room false
   no_mail A e =
       refuted (λ h K S.
       A.no e k.peers K.core.N K.core.names_kept m.counts K.core.P K.core.post_kept (core_mailed m k h K.core S))
 
   -- with all parts the host is the one that they make
-  pub audited : {a b c d e f r : Bool} → Agreeing k a → a ≡ true → ValidNames m.nameLens m.names k.width k.peers b → b ≡ true
+  pub audited : {a b c d e f r : Bool} → Agreeing k a → a ≡ true → ValidNames m.name_lens m.names k.width k.peers b → b ≡ true
       → ValidMap m.lows m.owners k.bounds k.hosts c → c ≡ true → ValidTable m.keys m.slots m.lens m.values k.entries d → d ≡ true
       → ValidPost m.counts m.places m.mail k.size k.peers e → e ≡ true
-      → ValidMail m.nameLens m.names m.places m.mail k.width k.size f → f ≡ true → ValidRoom m k room r → Audited m k room r
+      → ValidMail m.name_lens m.names m.places m.mail k.width k.size f → f ≡ true → ValidRoom m k room r → Audited m k room r
   audited A ta B tb C tc D td E te F tf R =
       let a = A.yes ta in
       let b = B.yes tb in
@@ -68,7 +68,7 @@ module _ {m : Memory} {k : State} {room : List ℕ} where
       record {
         yes = λ t.
             let o = R.yes t in
-            let h : Host = hostOf m k b.0 e.0 o.0 in
+            let h : Host = host_of m k b.0 e.0 o.0 in
             let core = made_core m k b.0 c.0 d.0 e.0 a.sized a.few a.own b.1 c.1 c.2 d.1 e.1 l o.0 in (
               h,
               record { core = core; room_is = o.1 h core },

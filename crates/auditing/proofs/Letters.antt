@@ -15,20 +15,20 @@ use Rattle.audits_mail.specs.Answers.{MessageTo}
 use Rattle.auditing.specs.Sendable.{AllValid}
 
 -- the body of a message; where there is none any body will do
-abbrev bodyIn : Option Datagram → Body
-bodyIn none = get 0
-bodyIn (some (message x a b)) = b
-bodyIn (some (ack x)) = get 0
+abbrev body_in : Option Datagram → Body
+body_in none = get 0
+body_in (some (message x a b)) = b
+body_in (some (ack x)) = get 0
 
 -- the bodies of the messages that the datagrams are
 abbrev pub bodies : List (List ℕ) → List Body
 bodies [] = []
-bodies (s ∷ l) = bodyIn (read s) ∷ bodies l
+bodies (s ∷ l) = body_in (read s) ∷ bodies l
 
 body_is : (x : ℕ) (a : Address) (s : List ℕ) → MessageTo x a s
-    → (s ≡ written (message x a (bodyIn (read s)))) × Valid (message x a (bodyIn (read s)))
+    → (s ≡ written (message x a (body_in (read s)))) × Valid (message x a (body_in (read s)))
 body_is x a s M =
-    let e : M.0 ≡ bodyIn (read s) = sym (ap bodyIn (ap read (sym M.2) ∙ read_written (message x a M.0) M.1)) in
+    let e : M.0 ≡ body_in (read s) = sym (ap body_in (ap read (sym M.2) ∙ read_written (message x a M.0) M.1)) in
     (sym M.2 ∙ ap (λ (c : Body). written (message x a c)) e, subst (λ (c : Body). Valid (message x a c)) e M.1)
 
 -- datagrams that are messages, with the numbers from x on, are those of their bodies

@@ -1,7 +1,7 @@
 -- What the private functions answer. A caller of the crate need not read this.
 -- Assumes nothing.
 use Rattle.std.specs.Prelude.{◌≡◌, Bool, true, false, List, ℕ, ◌≤◌, ◌<◌, length, get_or}
-use Rattle.limits.specs.Limits.{valueMax}
+use Rattle.limits.specs.Limits.{value_max}
 use Rattle.records.specs.Memory.{Slots}
 
 pub record Permuted (slots : List ℕ) (r : Bool) : Type 0 where
@@ -13,5 +13,5 @@ pub record Fresh (slots : List ℕ) (i : ℕ) (r : Bool) : Type 0 where
   pub no : r ≡ false → Slots slots → ⊥
 
 pub record AllShort (slots lens : List ℕ) (n : ℕ) (r : Bool) : Type 0 where
-  pub yes : r ≡ true → (i : ℕ) → i < n → get_or lens (get_or slots i 0) 0 ≤ valueMax
-  pub no : r ≡ false → ((i : ℕ) → i < n → get_or slots i 0 < length lens) → ((i : ℕ) → i < n → get_or lens (get_or slots i 0) 0 ≤ valueMax) → ⊥
+  pub yes : r ≡ true → (i : ℕ) → i < n → get_or lens (get_or slots i 0) 0 ≤ value_max
+  pub no : r ≡ false → ((i : ℕ) → i < n → get_or slots i 0 < length lens) → ((i : ℕ) → i < n → get_or lens (get_or slots i 0) 0 ≤ value_max) → ⊥

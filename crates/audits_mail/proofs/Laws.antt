@@ -21,7 +21,7 @@ use Rattle.peers.specs.declared.Where.{Where}
 use Rattle.peers.specs.declared.Where.TheVariants.{At, Missing}
 use Rattle.peers.specs.Names.{Keeps as KeepsNames, AfterName}
 use Rattle.delivery.specs.Post.{Post}
-use Rattle.delivery.specs.Memory.{Keeps as KeepsPost, capacity, markAt, number_at, length_at, datagramAt}
+use Rattle.delivery.specs.Memory.{Keeps as KeepsPost, capacity, mark_at, number_at, length_at, datagram_at}
 use Rattle.audits_mail.specs.Answers.{MessageTo, Mailed, Valid}
 use Rattle.audits_mail.specs.Inner.{Addressed, Fine}
 
@@ -31,13 +31,13 @@ abbrev number_in : Datagram → ℕ
 number_in (message x a b) = x
 number_in (ack x) = x
 
-abbrev addressIn : Datagram → Address
-addressIn (message x a b) = a
-addressIn (ack x) = []
+abbrev address_in : Datagram → Address
+address_in (message x a b) = a
+address_in (ack x) = []
 
-abbrev isAck : Datagram → Bool
-isAck (message x a b) = false
-isAck (ack x) = true
+abbrev is_ack : Datagram → Bool
+is_ack (message x a b) = false
+is_ack (ack x) = true
 
 pub parse_as : {s : List ℕ} {r q : Parsed} → r ≡ q → AfterParse s r → AfterParse s q
 parse_as {s} e A = subst (λ (r : Parsed). AfterParse s r) e A
@@ -55,7 +55,7 @@ module _ {s : List ℕ} {x : ℕ} {a : Address} where
   -- an Ack is no message, nor are bytes that are none
   pub not_ack : {n : ℕ} → AfterParse s (Ack n) → Addressed x a s false
   not_ack {n} A =
-      no_message (λ M. true≢false (ap isAck (one_message (ack n) (message x a M.0) A.is.0 M.1 (A.is.1 ∙ sym M.2))))
+      no_message (λ M. true≢false (ap is_ack (one_message (ack n) (message x a M.0) A.is.0 M.1 (A.is.1 ∙ sym M.2))))
 
   pub not_any : AfterParse s Invalid → Addressed x a s false
   not_any A = no_message (λ M. A.is (message x a M.0) M.1 M.2)
@@ -72,50 +72,50 @@ module _ {s : List ℕ} {x : ℕ} {a : Address} where
             let w : bytes_of s p ≡ a = sym t ∙ S.yes q in
             subst (λ (c : Address). MessageTo x c s) w
             (subst (λ (y : ℕ). MessageTo y (bytes_of s p) s) e (body_of s b, A.is.0, A.is.1));
-        no = λ q M. S.no q (t ∙ ap addressIn (is_message A M));
+        no = λ q M. S.no q (t ∙ ap address_in (is_message A M));
       }
 
 -- ---- a place
 
 module _ {lens names places mail : List ℕ} {width size p : ℕ} where
-  pub free : markAt places p ≡ 0 → Fine lens names places mail width size p true
+  pub free : mark_at places p ≡ 0 → Fine lens names places mail width size p true
   free z = record { yes = λ e n N K counts P L i m. absurd (omega (arith, z, m)); no = λ e. absurd (true≢false e) }
 
   unfit : ((n : ℕ) (N : ℕ → Address) → KeepsNames lens names width n N → (counts : List ℕ) (P : Post) → KeepsPost counts places mail size n P → ⊥)
       → Fine lens names places mail width size p false
   unfit h = record { yes = λ e. absurd (false≢true e); no = λ e n N K counts P L d. h n N K counts P L }
 
-  pub too_long : p < capacity places → (markAt places p ≡ 0 → ⊥) → size < length_at places p → Fine lens names places mail width size p false
+  pub too_long : p < capacity places → (mark_at places p ≡ 0 → ⊥) → size < length_at places p → Fine lens names places mail width size p false
   too_long b u h = unfit (λ n N K counts P L. omega (arith, h, L.short p b (omega (arith, u))))
 
-  pub nameless : p < capacity places → (markAt places p ≡ 0 → ⊥) → AfterName lens names width (markAt places p - 1) Missing
+  pub nameless : p < capacity places → (mark_at places p ≡ 0 → ⊥) → AfterName lens names width (mark_at places p - 1) Missing
       → Fine lens names places mail width size p false
   nameless b u A =
       unfit (λ n N K counts P L.
-      let m : markAt places p ≡ suc (markAt places p - 1) = omega (arith, u) in
-      A.is n N K (L.holding.only p (markAt places p - 1) b m).0)
+      let m : mark_at places p ≡ suc (mark_at places p - 1) = omega (arith, u) in
+      A.is n N K (L.holding.only p (mark_at places p - 1) b m).0)
 
-  pub read : {from to : ℕ} {t : Bool} → p < capacity places → (markAt places p ≡ 0 → ⊥)
-      → AfterName lens names width (markAt places p - 1) (At from to)
+  pub read : {from to : ℕ} {t : Bool} → p < capacity places → (mark_at places p ≡ 0 → ⊥)
+      → AfterName lens names width (mark_at places p - 1) (At from to)
       → Addressed (number_at places p) (part names from (to - from)) (take (p * size + length_at places p - p * size) (drop (p * size) mail)) t
       → Fine lens names places mail width size p t
   read {from} {to} b u A D = record {
     yes = λ q n N K counts P L i m.
         let o = L.holding.only p i b m in
-        let j : markAt places p - 1 ≡ i = omega (arith, m) in
+        let j : mark_at places p - 1 ≡ i = omega (arith, m) in
         subst (λ (s : List ℕ). MessageTo (number_at places p) (N i) s) (part_taken mail (p * size) (length_at places p))
         (subst (λ (c : Address). MessageTo (number_at places p) c (take (p * size + length_at places p - p * size) (drop (p * size) mail)))
         (named n N K o.0 j)
         (D.yes q));
     no = λ q n N K counts P L d.
-        let i : ℕ = markAt places p - 1 in
-        let m : markAt places p ≡ suc i = omega (arith, u) in
+        let i : ℕ = mark_at places p - 1 in
+        let m : mark_at places p ≡ suc i = omega (arith, u) in
         D.no q
         (subst (λ (s : List ℕ). MessageTo (number_at places p) (part names from (to - from)) s) (sym (part_taken mail (p * size) (length_at places p)))
-        (subst (λ (c : Address). MessageTo (number_at places p) c (datagramAt places mail size p)) (sym (named n N K (L.holding.only p i b m).0 refl)) (d i m)));
+        (subst (λ (c : Address). MessageTo (number_at places p) c (datagram_at places mail size p)) (sym (named n N K (L.holding.only p i b m).0 refl)) (d i m)));
   }
     where
-      named : (n : ℕ) (N : ℕ → Address) → KeepsNames lens names width n N → {i : ℕ} → i < n → markAt places p - 1 ≡ i → part names from (to - from) ≡ N i
+      named : (n : ℕ) (N : ℕ → Address) → KeepsNames lens names width n N → {i : ℕ} → i < n → mark_at places p - 1 ≡ i → part names from (to - from) ≡ N i
       named n N K {i} h j =
           A.is.2 n N K (omega (arith, h, j)) ∙ ap N j
 

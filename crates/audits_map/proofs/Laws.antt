@@ -27,13 +27,13 @@ joined_more owners i p t n j q e =
     (lt_or_ge (suc j) i)
 
 -- the owner of the last of n bounds at or below the key
-abbrev mapOf : (lows owners : List ℕ) → ℕ → ℕ → ℕ
-mapOf lows owners zero k = 0
-mapOf lows owners (suc n) k = cond (ltb k (get_or lows n 0)) (mapOf lows owners n k) (get_or owners n 0)
+abbrev map_of : (lows owners : List ℕ) → ℕ → ℕ → ℕ
+map_of lows owners zero k = 0
+map_of lows owners (suc n) k = cond (ltb k (get_or lows n 0)) (map_of lows owners n k) (get_or owners n 0)
 
 module _ (lows owners : List ℕ) where
   map_means : (n : ℕ) → Rising lows n → (i k : ℕ) → i < n → get_or lows i 0 ≤ k → (suc i < n → k < get_or lows (suc i) 0)
-      → mapOf lows owners n k ≡ get_or owners i 0
+      → map_of lows owners n k ≡ get_or owners i 0
   map_means zero r i k h l u = absurd (omega arith)
   map_means (suc n) r i k h l u =
       ⊎_elim
@@ -52,7 +52,7 @@ module _ (lows owners : List ℕ) where
       rw (le-ltb k (get_or lows n 0) c) (ap (λ (x : ℕ). get_or owners x 0) e))
       (lt_or_ge i n)
 
-  map_within : (n hosts : ℕ) → 0 < n → get_or lows 0 0 ≡ 0 → Hosts owners n hosts → (k : ℕ) → mapOf lows owners n k < hosts
+  map_within : (n hosts : ℕ) → 0 < n → get_or lows 0 0 ≡ 0 → Hosts owners n hosts → (k : ℕ) → map_of lows owners n k < hosts
   map_within zero hosts p z h k = absurd (omega arith)
   map_within (suc n) hosts p z h k =
       ⊎_elim
@@ -77,7 +77,7 @@ module _ {lows owners : List ℕ} {n hosts : ℕ} where
       → Owned owners n hosts r → Valid lows owners n hosts r
   mapped b z s t o = record {
     yes = λ e. (
-      mapOf lows owners n,
+      map_of lows owners n,
       record {
         some = b.0;
         fits_lows = b.1;

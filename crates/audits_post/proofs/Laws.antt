@@ -12,14 +12,14 @@ use lib.Dec.{eqb}
 use borrow.Author.Tests.{eqb-true, eqb-false, eq-eqb}
 use Rattle.columns.proofs.Cases.{lt_or_ge}
 use Rattle.delivery.specs.Post.{Post}
-use Rattle.delivery.specs.Memory.{Keeps, receivedOf, acknowledgedOf, last_of, capacity, markAt, number_at, length_at, datagramAt}
+use Rattle.delivery.specs.Memory.{Keeps, received_of, acknowledged_of, last_of, capacity, mark_at, number_at, length_at, datagram_at}
 use Rattle.audits_post.specs.Answers.{Valid}
 use Rattle.audits_post.specs.Inner.{Tells, Stands, First, Fits, AllFit, Told, AllTold}
 
 -- ---- the last of c places with a mark and a number
 
 abbrev stands : List ℕ → ℕ → ℕ → ℕ → Bool
-stands places mark x p = eqb (markAt places p) mark && eqb (number_at places p) x
+stands places mark x p = eqb (mark_at places p) mark && eqb (number_at places p) x
 
 abbrev seek : List ℕ → ℕ → ℕ → ℕ → ℕ
 seek places mark x zero = 0
@@ -34,8 +34,8 @@ seek_finds places mark x (suc c) p h s = go (stands places mark x c) refl (seek_
         → (p < c → Stands places mark x p → (seek places mark x c < c) × Stands places mark x (seek places mark x c))
         → (cond t c (seek places mark x c) < suc c) × Stands places mark x (cond t c (seek places mark x c))
     go true e f =
-        let u = (and-eq-true_iff (eqb (markAt places c) mark) (eqb (number_at places c) x)).0 e in
-        (omega arith, (eqb-true (markAt places c) mark u.0, eqb-true (number_at places c) x u.1))
+        let u = (and-eq-true_iff (eqb (mark_at places c) mark) (eqb (number_at places c) x)).0 e in
+        (omega arith, (eqb-true (mark_at places c) mark u.0, eqb-true (number_at places c) x u.1))
     go false e f =
         ⊎_elim
         (λ q. let r = f q s in (omega (arith, r.0), r.1))
@@ -43,8 +43,8 @@ seek_finds places mark x (suc c) p h s = go (stands places mark x c) refl (seek_
         let z : p ≡ c = omega arith in
         let w : Stands places mark x c = subst (λ (y : ℕ). Stands places mark x y) z s in
         let t : stands places mark x c ≡ true =
-        (and-eq-true_iff (eqb (markAt places c) mark) (eqb (number_at places c) x)).1
-        (eq-eqb (markAt places c) mark w.0, eq-eqb (number_at places c) x w.1) in
+        (and-eq-true_iff (eqb (mark_at places c) mark) (eqb (number_at places c) x)).1
+        (eq-eqb (mark_at places c) mark w.0, eq-eqb (number_at places c) x w.1) in
         absurd (false≢true (sym e ∙ t)))
         (lt_or_ge p c)
 
@@ -58,50 +58,50 @@ length_row : (g : ℕ → List ℕ) (m : ℕ) → length (row g m) ≡ m
 length_row g zero = refl
 length_row g (suc m) = ap suc (length_row (λ j. g (suc j)) m)
 
-getD_row : (g : ℕ → List ℕ) (m j : ℕ) → j < m → get_or (row g m) j [] ≡ g j
-getD_row g zero j h = absurd (omega arith)
-getD_row g (suc m) zero h = refl
-getD_row g (suc m) (suc j) h = getD_row (λ j. g (suc j)) m j (omega arith)
+get_or_row : (g : ℕ → List ℕ) (m j : ℕ) → j < m → get_or (row g m) j [] ≡ g j
+get_or_row g zero j h = absurd (omega arith)
+get_or_row g (suc m) zero h = refl
+get_or_row g (suc m) (suc j) h = get_or_row (λ j. g (suc j)) m j (omega arith)
 
 -- ---- what the words and places say
 
 -- the j-th datagram that waits for peer i
 abbrev waits : (counts places mail : List ℕ) → ℕ → ℕ → ℕ → List ℕ
 waits counts places mail size i j =
-    datagramAt places mail size (seek places (suc i) (suc (acknowledgedOf counts i + j)) (capacity places))
+    datagram_at places mail size (seek places (suc i) (suc (acknowledged_of counts i + j)) (capacity places))
 
 abbrev post_of : (counts places mail : List ℕ) → ℕ → Post
 post_of counts places mail size = record {
-  received = receivedOf counts;
-  acknowledged = acknowledgedOf counts;
-  waiting = λ i. row (waits counts places mail size i) (last_of counts i - acknowledgedOf counts i);
+  received = received_of counts;
+  acknowledged = acknowledged_of counts;
+  waiting = λ i. row (waits counts places mail size i) (last_of counts i - acknowledged_of counts i);
 }
 
 module _ (counts places mail : List ℕ) (size n : ℕ) (wide : 0 < size) (words : n * 3 ≤ length counts)
     (room : capacity places * size ≤ length mail) (F : AllFit counts places size n) (T : AllTold counts places n) where
-  many : (i : ℕ) → length ((post_of counts places mail size).waiting i) ≡ last_of counts i - acknowledgedOf counts i
-  many i = length_row (waits counts places mail size i) (last_of counts i - acknowledgedOf counts i)
+  many : (i : ℕ) → length ((post_of counts places mail size).waiting i) ≡ last_of counts i - acknowledged_of counts i
+  many i = length_row (waits counts places mail size i) (last_of counts i - acknowledged_of counts i)
 
   here : (i j : ℕ) → i < n → j < length ((post_of counts places mail size).waiting i)
-      → (p : ℕ) × (p < capacity places) × (markAt places p ≡ suc i) × (number_at places p ≡ suc (acknowledgedOf counts i + j))
-      × (datagramAt places mail size p ≡ get_or ((post_of counts places mail size).waiting i) j [])
+      → (p : ℕ) × (p < capacity places) × (mark_at places p ≡ suc i) × (number_at places p ≡ suc (acknowledged_of counts i + j))
+      × (datagram_at places mail size p ≡ get_or ((post_of counts places mail size).waiting i) j [])
   here i j h q =
-      let b : j < last_of counts i - acknowledgedOf counts i = omega (arith, q, many i) in
-      let w = (T i h).all (suc (acknowledgedOf counts i + j)) (omega arith) (omega (arith, b)) in
-      let s = seek_finds places (suc i) (suc (acknowledgedOf counts i + j)) (capacity places) w.0 w.1 w.2 in (
-        seek places (suc i) (suc (acknowledgedOf counts i + j)) (capacity places),
+      let b : j < last_of counts i - acknowledged_of counts i = omega (arith, q, many i) in
+      let w = (T i h).all (suc (acknowledged_of counts i + j)) (omega arith) (omega (arith, b)) in
+      let s = seek_finds places (suc i) (suc (acknowledged_of counts i + j)) (capacity places) w.0 w.1 w.2 in (
+        seek places (suc i) (suc (acknowledged_of counts i + j)) (capacity places),
         s.0,
         s.1.0,
         s.1.1,
-        sym (getD_row (waits counts places mail size i) (last_of counts i - acknowledgedOf counts i) j b),
+        sym (get_or_row (waits counts places mail size i) (last_of counts i - acknowledged_of counts i) j b),
       )
 
-  apart : (p q : ℕ) → p < capacity places → q < capacity places → 0 < markAt places p → markAt places p ≡ markAt places q
+  apart : (p q : ℕ) → p < capacity places → q < capacity places → 0 < mark_at places p → mark_at places p ≡ mark_at places q
       → number_at places p ≡ number_at places q → p ≡ q
   apart p q hp hq u m x =
-      let i : ℕ = markAt places p - 1 in
-      let mp : markAt places p ≡ suc i = omega arith in
-      let mq : markAt places q ≡ suc i = omega (arith, m, mp) in
+      let i : ℕ = mark_at places p - 1 in
+      let mp : mark_at places p ≡ suc i = omega arith in
+      let mq : mark_at places q ≡ suc i = omega (arith, m, mp) in
       ⊎_elim
       (λ s. absurd ((F q hq).new i mq p s (mp, x)))
       (λ s. ⊎_elim (λ t. absurd ((F p hp).new i mp q t (mq, sym x))) (λ t. omega arith) (lt_or_ge q p))
@@ -115,7 +115,7 @@ module _ (counts places mail : List ℕ) (size n : ℕ) (wide : 0 < size) (words
     received = λ i h. refl;
     acknowledged = λ i h. refl;
     sent = λ i h. omega (arith, many i, (T i h).ordered);
-    short = λ p h u. let m : markAt places p ≡ suc (markAt places p - 1) = omega arith in (F p h).short (markAt places p - 1) m;
+    short = λ p h u. let m : mark_at places p ≡ suc (mark_at places p - 1) = omega arith in (F p h).short (mark_at places p - 1) m;
     holding = record {
       here = here;
       only = λ p i h m.
@@ -177,7 +177,7 @@ peer_is : (m : ℕ) → (m ≡ 0 → ⊥) → m ≡ suc (m - 1)
 peer_is m u = omega (arith, u)
 
 module _ {counts places : List ℕ} {size n p : ℕ} where
-  pub free_fits : markAt places p ≡ 0 → Fits counts places size n p
+  pub free_fits : mark_at places p ≡ 0 → Fits counts places size n p
   free_fits z = record {
     peer = λ i m. absurd (omega (arith, m, z));
     short = λ i m. absurd (omega (arith, m, z));
@@ -186,26 +186,26 @@ module _ {counts places : List ℕ} {size n p : ℕ} where
     new = λ i m. absurd (omega (arith, m, z));
   }
 
-  pub no_peer : (markAt places p ≡ 0 → ⊥) → n ≤ markAt places p - 1 → Fits counts places size n p → ⊥
-  no_peer u h F = omega (arith, h, F.peer (markAt places p - 1) (peer_is (markAt places p) u))
+  pub no_peer : (mark_at places p ≡ 0 → ⊥) → n ≤ mark_at places p - 1 → Fits counts places size n p → ⊥
+  no_peer u h F = omega (arith, h, F.peer (mark_at places p - 1) (peer_is (mark_at places p) u))
 
-  pub too_long : (markAt places p ≡ 0 → ⊥) → size < length_at places p → Fits counts places size n p → ⊥
-  too_long u h F = omega (arith, h, F.short (markAt places p - 1) (peer_is (markAt places p) u))
+  pub too_long : (mark_at places p ≡ 0 → ⊥) → size < length_at places p → Fits counts places size n p → ⊥
+  too_long u h F = omega (arith, h, F.short (mark_at places p - 1) (peer_is (mark_at places p) u))
 
-  pub too_low : (markAt places p ≡ 0 → ⊥) → number_at places p ≤ acknowledgedOf counts (markAt places p - 1) → Fits counts places size n p → ⊥
-  too_low u h F = omega (arith, h, F.above (markAt places p - 1) (peer_is (markAt places p) u))
+  pub too_low : (mark_at places p ≡ 0 → ⊥) → number_at places p ≤ acknowledged_of counts (mark_at places p - 1) → Fits counts places size n p → ⊥
+  too_low u h F = omega (arith, h, F.above (mark_at places p - 1) (peer_is (mark_at places p) u))
 
-  pub too_high : (markAt places p ≡ 0 → ⊥) → last_of counts (markAt places p - 1) < number_at places p → Fits counts places size n p → ⊥
-  too_high u h F = omega (arith, h, F.upto (markAt places p - 1) (peer_is (markAt places p) u))
+  pub too_high : (mark_at places p ≡ 0 → ⊥) → last_of counts (mark_at places p - 1) < number_at places p → Fits counts places size n p → ⊥
+  too_high u h F = omega (arith, h, F.upto (mark_at places p - 1) (peer_is (mark_at places p) u))
 
-  pub first_fits : {r : ℕ} → p < capacity places → (markAt places p ≡ 0 → ⊥) → markAt places p - 1 < n → length_at places p ≤ size
-      → acknowledgedOf counts (markAt places p - 1) < number_at places p → number_at places p ≤ last_of counts (markAt places p - 1)
-      → First places (markAt places p) (number_at places p) r → Tells (Fits counts places size n p) (eqb r p)
+  pub first_fits : {r : ℕ} → p < capacity places → (mark_at places p ≡ 0 → ⊥) → mark_at places p - 1 < n → length_at places p ≤ size
+      → acknowledged_of counts (mark_at places p - 1) < number_at places p → number_at places p ≤ last_of counts (mark_at places p - 1)
+      → First places (mark_at places p) (number_at places p) r → Tells (Fits counts places size n p) (eqb r p)
   first_fits {r} b u h s a l F = record {
     yes = λ e. record {
       peer = λ i m. omega (arith, h, m);
       short = λ i m. s;
-      above = λ i m. omega (arith, a, ap (acknowledgedOf counts) (of i m));
+      above = λ i m. omega (arith, a, ap (acknowledged_of counts) (of i m));
       upto = λ i m. omega (arith, l, ap (last_of counts) (of i m));
       new = λ i m q d t. F.before q (omega (arith, d, eqb-true r p e)) (t.0 ∙ sym m, t.1);
     };
@@ -215,26 +215,26 @@ module _ {counts places : List ℕ} {size n p : ℕ} where
         (λ d.
         let c : r < p = omega (arith, d, eqb-false r p e) in
         let w = F.is (omega (arith, c, b)) in
-        G.new (markAt places p - 1) (peer_is (markAt places p) u) r c (w.0 ∙ peer_is (markAt places p) u, w.1))
+        G.new (mark_at places p - 1) (peer_is (mark_at places p) u) r c (w.0 ∙ peer_is (mark_at places p) u, w.1))
         (lt_or_ge p r);
   }
     where
-      of : (i : ℕ) → markAt places p ≡ suc i → markAt places p - 1 ≡ i
+      of : (i : ℕ) → mark_at places p ≡ suc i → mark_at places p - 1 ≡ i
       of i m = omega (arith, m)
 
 -- ---- one peer
 
 module _ {places : List ℕ} {i x r : ℕ} (F : First places (i + 1) (x + 1) r) where
   -- the next number has no place
-  pub lacking : {counts : List ℕ} → r ≡ capacity places → acknowledgedOf counts i ≤ x → x < last_of counts i → Told counts places i → ⊥
+  pub lacking : {counts : List ℕ} → r ≡ capacity places → acknowledged_of counts i ≤ x → x < last_of counts i → Told counts places i → ⊥
   lacking {counts} e a l T =
       let w = T.all (x + 1) (omega arith) (omega arith) in
       F.before w.0 (omega (arith, e, w.1)) (omega (arith, w.2.0), w.2.1)
 
   -- .. or it has one
   pub found : (counts : List ℕ) → (r ≡ capacity places → ⊥)
-      → ((y : ℕ) → acknowledgedOf counts i < y → y ≤ x → (p : ℕ) × (p < capacity places) × Stands places (suc i) y p)
-      → (y : ℕ) → acknowledgedOf counts i < y → y ≤ x + 1 → (p : ℕ) × (p < capacity places) × Stands places (suc i) y p
+      → ((y : ℕ) → acknowledged_of counts i < y → y ≤ x → (p : ℕ) × (p < capacity places) × Stands places (suc i) y p)
+      → (y : ℕ) → acknowledged_of counts i < y → y ≤ x + 1 → (p : ℕ) × (p < capacity places) × Stands places (suc i) y p
   found counts u h y a b =
       ⊎_elim
       (λ d. h y a (omega arith))

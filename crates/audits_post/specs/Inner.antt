@@ -1,7 +1,7 @@
 -- What the private functions answer. A caller of the crate need not read this.
 -- Assumes nothing.
 use Rattle.std.specs.Prelude.{◌≡◌, Bool, true, false, List, ℕ, suc, ◌≤◌, ◌<◌}
-use Rattle.delivery.specs.Memory.{acknowledgedOf, last_of, capacity, markAt, number_at, length_at}
+use Rattle.delivery.specs.Memory.{acknowledged_of, last_of, capacity, mark_at, number_at, length_at}
 
 -- r says whether A holds
 pub record Tells (A : Type 0) (r : Bool) : Type 0 where
@@ -10,7 +10,7 @@ pub record Tells (A : Type 0) (r : Bool) : Type 0 where
 
 -- place p has that mark and number
 abbrev pub Stands : List ℕ → ℕ → ℕ → ℕ → Type 0
-Stands places mark x p = (markAt places p ≡ mark) × (number_at places p ≡ x)
+Stands places mark x p = (mark_at places p ≡ mark) × (number_at places p ≡ x)
 
 -- r is the first such place, or the number of places
 pub record First (places : List ℕ) (mark x r : ℕ) : Type 0 where
@@ -21,19 +21,19 @@ pub record First (places : List ℕ) (mark x r : ℕ) : Type 0 where
 -- place p is free; or it is for one of the first n peers, its datagram has room, its number is one of a message that waits for that peer, and no
 -- place before it has both
 pub record Fits (counts places : List ℕ) (size n p : ℕ) : Type 0 where
-  pub peer : (i : ℕ) → markAt places p ≡ suc i → i < n
-  pub short : (i : ℕ) → markAt places p ≡ suc i → length_at places p ≤ size
-  pub above : (i : ℕ) → markAt places p ≡ suc i → acknowledgedOf counts i < number_at places p
-  pub upto : (i : ℕ) → markAt places p ≡ suc i → number_at places p ≤ last_of counts i
-  pub new : (i : ℕ) → markAt places p ≡ suc i → (q : ℕ) → q < p → Stands places (suc i) (number_at places p) q → ⊥
+  pub peer : (i : ℕ) → mark_at places p ≡ suc i → i < n
+  pub short : (i : ℕ) → mark_at places p ≡ suc i → length_at places p ≤ size
+  pub above : (i : ℕ) → mark_at places p ≡ suc i → acknowledged_of counts i < number_at places p
+  pub upto : (i : ℕ) → mark_at places p ≡ suc i → number_at places p ≤ last_of counts i
+  pub new : (i : ℕ) → mark_at places p ≡ suc i → (q : ℕ) → q < p → Stands places (suc i) (number_at places p) q → ⊥
 
 abbrev pub AllFit : (counts places : List ℕ) → ℕ → ℕ → Type 0
 AllFit counts places size n = (p : ℕ) → p < capacity places → Fits counts places size n p
 
 -- each number after those that peer i has acknowledged, up to the last, has its place
 pub record Told (counts places : List ℕ) (i : ℕ) : Type 0 where
-  pub ordered : acknowledgedOf counts i ≤ last_of counts i
-  pub all : (x : ℕ) → acknowledgedOf counts i < x → x ≤ last_of counts i → (p : ℕ) × (p < capacity places) × Stands places (suc i) x p
+  pub ordered : acknowledged_of counts i ≤ last_of counts i
+  pub all : (x : ℕ) → acknowledged_of counts i < x → x ≤ last_of counts i → (p : ℕ) × (p < capacity places) × Stands places (suc i) x p
 
 abbrev pub AllTold : (counts places : List ℕ) → ℕ → Type 0
 AllTold counts places n = (i : ℕ) → i < n → Told counts places i

@@ -25,7 +25,7 @@ use Rattle.protocol.specs.State.{Host, Letter}
 use Rattle.hosts.specs.declared.State.{State}
 use Rattle.hosts.specs.Memory.{Memory, memory, name_at}
 use Rattle.hosts.specs.Limits.{Needs}
-use Rattle.hosts.specs.Keeps.{Core, limitsOf, RoomCases}
+use Rattle.hosts.specs.Keeps.{Core, limits_of, RoomCases}
 use Rattle.hearing.specs.Answers.{Own}
 use Rattle.rooms.specs.Answers.{Tested}
 use Rattle.audits_room.specs.Answers.{Valid}
@@ -33,17 +33,17 @@ use Rattle.audits_room.specs.Inner.{Is, Held}
 
 -- ---- parts of a message
 
-abbrev addressIn : Datagram → Address
-addressIn (message x a b) = a
-addressIn (ack x) = []
+abbrev address_in : Datagram → Address
+address_in (message x a b) = a
+address_in (ack x) = []
 
-abbrev bodyIn : Datagram → Body
-bodyIn (message x a b) = b
-bodyIn (ack x) = get 0
+abbrev body_in : Datagram → Body
+body_in (message x a b) = b
+body_in (ack x) = get 0
 
-abbrev isAck : Datagram → Bool
-isAck (message x a b) = false
-isAck (ack x) = true
+abbrev is_ack : Datagram → Bool
+is_ack (message x a b) = false
+is_ack (ack x) = true
 
 pub parse_as : {s : List ℕ} {r q : Parsed} → r ≡ q → AfterParse s r → AfterParse s q
 parse_as {s} e A = subst (λ (r : Parsed). AfterParse s r) e A
@@ -59,40 +59,40 @@ same_message {s} {n} {to} {b} A h l e =
 
 -- ---- the datagram
 
-module _ {lows owners keys slots nameLens names places : List ℕ} {k : State} {s : List ℕ} where
+module _ {lows owners keys slots name_lens names places : List ℕ} {k : State} {s : List ℕ} where
   no_letter : ((lens values counts mail room : List ℕ) (h : Host) (l : Letter)
-      → Core (memory lows owners keys slots lens values nameLens names counts places mail) k h → k.from < k.peers
-      → Is (memory lows owners keys slots lens values nameLens names counts places mail) k room h s l → ⊥)
-      → Held lows owners keys slots nameLens names places k s false
+      → Core (memory lows owners keys slots lens values name_lens names counts places mail) k h → k.from < k.peers
+      → Is (memory lows owners keys slots lens values name_lens names counts places mail) k room h s l → ⊥)
+      → Held lows owners keys slots name_lens names places k s false
   no_letter f = record { yes = λ e. absurd (false≢true e); no = λ e. f }
 
-  pub nameless : AfterName nameLens names k.width k.from Missing → Held lows owners keys slots nameLens names places k s false
+  pub nameless : AfterName name_lens names k.width k.from Missing → Held lows owners keys slots name_lens names places k s false
   nameless A = no_letter (λ lens values counts mail room h l C b I. A.is k.peers C.N C.names_kept b)
 
   -- an Ack is no letter, nor are bytes that are no message
-  pub not_ack : {n : ℕ} → AfterParse s (Ack n) → Held lows owners keys slots nameLens names places k s false
+  pub not_ack : {n : ℕ} → AfterParse s (Ack n) → Held lows owners keys slots name_lens names places k s false
   not_ack {n} A =
       no_letter (λ lens values counts mail room h l C b I.
-      true≢false (ap isAck (some-injective (ack n) (message l.number h.me l.body) (sym (parse_reads s (Ack n) A) ∙ I.letter))))
+      true≢false (ap is_ack (some-injective (ack n) (message l.number h.me l.body) (sym (parse_reads s (Ack n) A) ∙ I.letter))))
 
-  pub not_any : AfterParse s Invalid → Held lows owners keys slots nameLens names places k s false
+  pub not_any : AfterParse s Invalid → Held lows owners keys slots name_lens names places k s false
   not_any A =
       no_letter (λ lens values counts mail room h l C b I.
       none-ne-some (message l.number h.me l.body) (sym (parse_reads s Invalid A) ∙ I.letter))
 
   module _ {n : ℕ} {to : Part} {b : BodyView} (A : AfterParse s (Message n to b)) where
-    module _ {t : Bool} (O : Own nameLens names k (take (to.at + to.len - to.at) (drop to.at s)) t) where
-      pub not_mine : t ≡ false → Held lows owners keys slots nameLens names places k s false
+    module _ {t : Bool} (O : Own name_lens names k (take (to.at + to.len - to.at) (drop to.at s)) t) where
+      pub not_mine : t ≡ false → Held lows owners keys slots name_lens names places k s false
       not_mine f =
           no_letter (λ lens values counts mail room h l C q I.
           O.other f lows owners keys slots lens values counts places mail h C
-          (part_taken s to.at to.len ∙ ap addressIn (same_message A h l I.letter)))
+          (part_taken s to.at to.len ∙ ap address_in (same_message A h l I.letter)))
 
-      pub tested : t ≡ true → {x y : ℕ} → AfterName nameLens names k.width k.from (At x y) → {r : Bool}
-          → Tested lows owners keys slots nameLens names places k (part names x (y - x)) s b r → Held lows owners keys slots nameLens names places k s r
+      pub tested : t ≡ true → {x y : ℕ} → AfterName name_lens names k.width k.from (At x y) → {r : Bool}
+          → Tested lows owners keys slots name_lens names places k (part names x (y - x)) s b r → Held lows owners keys slots name_lens names places k s r
       tested f {x} {y} N {r} T = record {
         yes = λ e. (
-          record { from = name_at nameLens names k.width k.from; number = n; body = body_of s b },
+          record { from = name_at name_lens names k.width k.from; number = n; body = body_of s b },
           λ lens values counts mail room h C q.
               let mine : bytes_of s to ≡ h.me =
               sym (part_taken s to.at to.len) ∙ O.yes f lows owners keys slots lens values counts places mail h C in
@@ -100,18 +100,18 @@ module _ {lows owners keys slots nameLens names places : List ℕ} {k : State} {
                 from = refl;
                 letter = parse_reads s (Message n to b) A ∙ ap (λ (c : Address). some (message n c (body_of s b))) mine;
                 needs = T.roomy e lens values counts mail room h
-                    (record { from = name_at nameLens names k.width k.from; number = n; body = body_of s b }) C
+                    (record { from = name_at name_lens names k.width k.from; number = n; body = body_of s b }) C
                     (C.names_kept.is k.from q ∙ sym (N.is.2 k.peers C.N C.names_kept q))
                     A.is.3;
               },
         );
         no = λ e lens values counts mail room h l C q I.
-            let m : Memory = memory lows owners keys slots lens values nameLens names counts places mail in
-            let d : l.body ≡ body_of s b = sym (ap bodyIn (same_message A h l I.letter)) in
+            let m : Memory = memory lows owners keys slots lens values name_lens names counts places mail in
+            let d : l.body ≡ body_of s b = sym (ap body_in (same_message A h l I.letter)) in
             T.lacks e lens values counts mail room h l C
             (sym I.from ∙ C.names_kept.is k.from q ∙ sym (N.is.2 k.peers C.N C.names_kept q))
             A.is.3
-            (subst (λ (c : Body). Needs (limitsOf m k room) h l c) d I.needs);
+            (subst (λ (c : Body). Needs (limits_of m k room) h l c) d I.needs);
       }
 
 -- ---- the room
@@ -134,10 +134,10 @@ module _ {m : Memory} {k : State} {room : List ℕ} where
   pub no_peer : 0 < k.len → k.peers ≤ k.from → Valid m k room false
   no_peer p h = unfit p (λ a b. omega arith)
 
-pub letter_held : {lows owners keys slots nameLens names places : List ℕ} {k : State} {room : List ℕ} {r : Bool} → 0 < k.len → k.len ≤ length room
-    → k.from < k.peers → Held lows owners keys slots nameLens names places k (take (k.len - 0) (drop 0 room)) r → (lens values counts mail : List ℕ)
-    → Valid (memory lows owners keys slots lens values nameLens names counts places mail) k room r
-letter_held {lows} {owners} {keys} {slots} {nameLens} {names} {places} {k} {room} {r} p l b H lens values counts mail = record {
+pub letter_held : {lows owners keys slots name_lens names places : List ℕ} {k : State} {room : List ℕ} {r : Bool} → 0 < k.len → k.len ≤ length room
+    → k.from < k.peers → Held lows owners keys slots name_lens names places k (take (k.len - 0) (drop 0 room)) r → (lens values counts mail : List ℕ)
+    → Valid (memory lows owners keys slots lens values name_lens names counts places mail) k room r
+letter_held {lows} {owners} {keys} {slots} {name_lens} {names} {places} {k} {room} {r} p l b H lens values counts mail = record {
   yes = λ e. let w = H.yes e in (some w.0, λ h C. let I = w.1 lens values counts mail room h C b in (p, l, b, I.from, sym (ap read front) ∙ I.letter, I.needs));
   no = λ e o h C R. go e h o C R;
 }
@@ -145,8 +145,8 @@ letter_held {lows} {owners} {keys} {slots} {nameLens} {names} {places} {k} {room
     front : take (k.len - 0) (drop 0 room) ≡ take k.len room
     front = let e : k.len - 0 ≡ k.len = omega arith in ap (λ (n : ℕ). take n room) e
 
-    go : r ≡ false → (h : Host) (o : Option Letter) → Core (memory lows owners keys slots lens values nameLens names counts places mail) k h
-        → RoomCases (memory lows owners keys slots lens values nameLens names counts places mail) k room h o → ⊥
+    go : r ≡ false → (h : Host) (o : Option Letter) → Core (memory lows owners keys slots lens values name_lens names counts places mail) k h
+        → RoomCases (memory lows owners keys slots lens values name_lens names counts places mail) k room h o → ⊥
     go e h none C z = omega (arith, p, z)
     go e h (some x) C R =
         H.no e lens values counts mail room h x C b (record { from = R.3; letter = ap read front ∙ R.4; needs = R.5 })

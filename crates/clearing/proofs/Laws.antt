@@ -8,15 +8,15 @@ use native.Mathlib.Omega.{arith}
 use lib.ListN.{length, set, length-set}
 use lib.Seq.{get_or-set_same, get_or-set_other}
 use Rattle.columns.proofs.Cases.{lt_or_ge}
-use Rattle.delivery.specs.Memory.{capacity, markAt, number_at, length_at}
+use Rattle.delivery.specs.Memory.{capacity, mark_at, number_at, length_at}
 use Rattle.clearing.specs.Answers.{Cleared}
 
 -- the first p places are cleared, the others are as they were
 pub record Passed (places : List ℕ) (mark x p : ℕ) (places' : List ℕ) : Type 0 where
   pub long : length places' ≡ length places
-  pub gone : (q : ℕ) → q < p → markAt places q ≡ mark → number_at places q ≤ x → markAt places' q ≡ 0
-  pub other : (q : ℕ) → q < p → (markAt places q ≡ mark → x < number_at places q) → markAt places' q ≡ markAt places q
-  pub rest : (q : ℕ) → p ≤ q → markAt places' q ≡ markAt places q
+  pub gone : (q : ℕ) → q < p → mark_at places q ≡ mark → number_at places q ≤ x → mark_at places' q ≡ 0
+  pub other : (q : ℕ) → q < p → (mark_at places q ≡ mark → x < number_at places q) → mark_at places' q ≡ mark_at places q
+  pub rest : (q : ℕ) → p ≤ q → mark_at places' q ≡ mark_at places q
   pub numbers : (q : ℕ) → number_at places' q ≡ number_at places q
   pub lengths : (q : ℕ) → length_at places' q ≡ length_at places q
 
@@ -45,7 +45,7 @@ module _ {places : List ℕ} {mark x p : ℕ} {places' : List ℕ} (C : Passed p
   among {Q} before at q h = ⊎_elim (λ l. before q l) (λ l. let e : p ≡ q = omega arith in subst Q e at) (lt_or_ge q p)
 
   -- the next place is left alone
-  pub passed_kept : (markAt places' p ≡ mark → x < number_at places' p) → Passed places mark x (p + 1) places'
+  pub passed_kept : (mark_at places' p ≡ mark → x < number_at places' p) → Passed places mark x (p + 1) places'
   passed_kept u = record {
     long = C.long;
     gone = among C.gone (λ m l. absurd (omega (arith, l, C.numbers p, u (C.rest p (omega arith) ∙ m))));
@@ -56,7 +56,7 @@ module _ {places : List ℕ} {mark x p : ℕ} {places' : List ℕ} (C : Passed p
   }
 
   -- the next place is freed
-  pub passed_freed : markAt places' p ≡ mark → number_at places' p ≤ x → Passed places mark x (p + 1) (set places' (p * 3) 0)
+  pub passed_freed : mark_at places' p ≡ mark → number_at places' p ≤ x → Passed places mark x (p + 1) (set places' (p * 3) 0)
   passed_freed m l = record {
     long = length-set places' (p * 3) 0 ∙ C.long;
     gone = among (λ q h e f. get_or-set_other places' (p * 3) (q * 3) 0 0 (λ d. omega arith) ∙ C.gone q h e f)

@@ -10,9 +10,9 @@ use Rattle.incoming.specs.declared.Received.TheVariants.{Full, Invalid, Elsewher
 use Rattle.rounds.specs.declared.Turned.{Turned}
 use Rattle.rounds.specs.declared.Turned.TheVariants.{Came, Did, Resent, Waits, Unfit as NotLent}
 use Rattle.rounds.specs.Answers.{unfit as tooShort, refuses}
-use Rattle.codes.specs.Codes.{unfit, receivedCode, processedCode, turnedCode}
+use Rattle.codes.specs.Codes.{unfit, received_code, processed_code, turned_code}
 
-pub received_refused : (o : Received) → receivedCode o ≡ unfit → o ≡ TooShort
+pub received_refused : (o : Received) → received_code o ≡ unfit → o ≡ TooShort
 received_refused Full e = absurd (omega (arith, e))
 received_refused Invalid e = absurd (omega (arith, e))
 received_refused Elsewhere e = absurd (omega (arith, e))
@@ -24,7 +24,7 @@ received_refused Arrived e = absurd (omega (arith, e))
 received_refused Stale e = absurd (omega (arith, e))
 received_refused TooShort e = refl
 
-processed_refused : (o : Processed) → processedCode o ≡ unfit → ⊥
+processed_refused : (o : Processed) → processed_code o ≡ unfit → ⊥
 processed_refused Idle e = omega (arith, e)
 processed_refused Stuck e = omega (arith, e)
 processed_refused (Replied p) e = omega (arith, e)
@@ -34,7 +34,7 @@ processed_refused Unnumbered e = omega (arith, e)
 processed_refused Accepted e = omega (arith, e)
 processed_refused (Handed p) e = omega (arith, e)
 
-pub turned_refused : (o : Turned) → refuses o ≡ false → turnedCode o ≡ unfit → ⊥
+pub turned_refused : (o : Turned) → refuses o ≡ false → turned_code o ≡ unfit → ⊥
 turned_refused (Came r) f e = false≢true (sym f ∙ ap (λ (o : Received). tooShort o) (received_refused r e))
 turned_refused (Did r) f e = processed_refused r e
 turned_refused (Resent n) f e = omega (arith, e)

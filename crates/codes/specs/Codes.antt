@@ -17,69 +17,69 @@ use Rattle.rounds.specs.declared.Turned.TheVariants.{Came, Did, Resent, Waits, U
 abbrev pub unfit : ℕ
 unfit = 2
 
-abbrev pub startedCode : Started → ℕ
-startedCode (Now k) = 0
-startedCode NoHost = 1
-startedCode NotStarted = unfit
+abbrev pub started_code : Started → ℕ
+started_code (Now k) = 0
+started_code NoHost = 1
+started_code NotStarted = unfit
 
-abbrev pub receivedCode : Received → ℕ
-receivedCode Full = 10
-receivedCode Invalid = 11
-receivedCode Elsewhere = 12
-receivedCode Taken = 13
-receivedCode Unreceived = 14
-receivedCode Again = 15
-receivedCode Future = 16
-receivedCode Arrived = 17
-receivedCode Stale = 18
-receivedCode TooShort = unfit
+abbrev pub received_code : Received → ℕ
+received_code Full = 10
+received_code Invalid = 11
+received_code Elsewhere = 12
+received_code Taken = 13
+received_code Unreceived = 14
+received_code Again = 15
+received_code Future = 16
+received_code Arrived = 17
+received_code Stale = 18
+received_code TooShort = unfit
 
-abbrev pub processedCode : Processed → ℕ
-processedCode Idle = 20
-processedCode Stuck = 21
-processedCode (Replied p) = 22
-processedCode (Redirected p) = 23
-processedCode Dropped = 24
-processedCode Unnumbered = 25
-processedCode Accepted = 26
-processedCode (Handed p) = 27
+abbrev pub processed_code : Processed → ℕ
+processed_code Idle = 20
+processed_code Stuck = 21
+processed_code (Replied p) = 22
+processed_code (Redirected p) = 23
+processed_code Dropped = 24
+processed_code Unnumbered = 25
+processed_code Accepted = 26
+processed_code (Handed p) = 27
 
 -- the place of the datagram to send; 0 where there is none
-abbrev pub processedPlace : Processed → ℕ
-processedPlace Idle = 0
-processedPlace Stuck = 0
-processedPlace (Replied p) = p
-processedPlace (Redirected p) = p
-processedPlace Dropped = 0
-processedPlace Unnumbered = 0
-processedPlace Accepted = 0
-processedPlace (Handed p) = p
+abbrev pub processed_place_of : Processed → ℕ
+processed_place_of Idle = 0
+processed_place_of Stuck = 0
+processed_place_of (Replied p) = p
+processed_place_of (Redirected p) = p
+processed_place_of Dropped = 0
+processed_place_of Unnumbered = 0
+processed_place_of Accepted = 0
+processed_place_of (Handed p) = p
 
 -- there are too few places or too few words to send again: the largest number, which no count comes near
-abbrev pub noPlaces : ℕ
-noPlaces = allNumbers - 1
+abbrev pub no_places : ℕ
+no_places = allNumbers - 1
 
-abbrev pub repeatedCode : Repeated → ℕ
-repeatedCode (Places n) = n
-repeatedCode NoRoom = noPlaces
+abbrev pub repeated_code : Repeated → ℕ
+repeated_code (Places n) = n
+repeated_code NoRoom = no_places
 
-abbrev pub turnedCode : Turned → ℕ
-turnedCode (Came r) = receivedCode r
-turnedCode (Did r) = processedCode r
-turnedCode (Resent n) = 30
-turnedCode Waits = 31
-turnedCode NotLent = unfit
+abbrev pub turned_code : Turned → ℕ
+turned_code (Came r) = received_code r
+turned_code (Did r) = processed_code r
+turned_code (Resent n) = 30
+turned_code Waits = 31
+turned_code NotLent = unfit
 
 -- the place of the datagram to send, or how many places of datagrams to send were written down; after receiving the hint, which says nothing; 0
 -- where there is none
-abbrev pub turnedPlace : Turned → (hint : ℕ) → ℕ
-turnedPlace (Came r) hint = hint
-turnedPlace (Did r) hint = processedPlace r
-turnedPlace (Resent n) hint = n
-turnedPlace Waits hint = 0
-turnedPlace NotLent hint = 0
+abbrev pub turned_place_of : Turned → (hint : ℕ) → ℕ
+turned_place_of (Came r) hint = hint
+turned_place_of (Did r) hint = processed_place_of r
+turned_place_of (Resent n) hint = n
+turned_place_of Waits hint = 0
+turned_place_of NotLent hint = 0
 
 -- whether memory keeps a host
-abbrev pub auditedCode : Bool → ℕ
-auditedCode false = 0
-auditedCode true = 1
+abbrev pub audited_code : Bool → ℕ
+audited_code false = 0
+audited_code true = 1

@@ -2,7 +2,7 @@
 #![tactic(auto)]
 
 ghost use Rattle.std.specs.Prelude.{◌≡◌};
-ghost use Rattle.codes.specs.Codes.{receivedCode, processedCode, processedPlace, repeatedCode, turnedCode, turnedPlace, auditedCode};
+ghost use Rattle.codes.specs.Codes.{received_code, processed_code, processed_place_of, repeated_code, turned_code, turned_place_of, audited_code};
 
 use hosts::Processed;
 use incoming::Received;
@@ -29,7 +29,7 @@ pub const NO_PLACES: u64 = 18446744073709551615;
 
 // What became of a datagram.
 pub fn received(o: Received) -> u64
-    ensures { result ≡ receivedCode o }
+    ensures { result ≡ received_code o }
 {
     match o {
         Received::Full => 10,
@@ -47,7 +47,7 @@ pub fn received(o: Received) -> u64
 
 // What became of the message in the room.
 pub fn processed(o: Processed) -> u64
-    ensures { result ≡ processedCode o }
+    ensures { result ≡ processed_code o }
 {
     match o {
         Processed::Idle => 20,
@@ -63,7 +63,7 @@ pub fn processed(o: Processed) -> u64
 
 // The place of the datagram to send, or 0 if there is none.
 pub fn processed_place(o: Processed) -> u64
-    ensures { result ≡ processedPlace o }
+    ensures { result ≡ processed_place_of o }
 {
     match o {
         Processed::Idle => 0,
@@ -79,7 +79,7 @@ pub fn processed_place(o: Processed) -> u64
 
 // How many places were written down.
 pub fn repeated(r: Repeated) -> u64
-    ensures { result ≡ repeatedCode r }
+    ensures { result ≡ repeated_code r }
 {
     match r {
         Repeated::Places(n) => n as u64,
@@ -89,7 +89,7 @@ pub fn repeated(r: Repeated) -> u64
 
 // What became of a turn.
 pub fn turned(o: Turned) -> u64
-    ensures { result ≡ turnedCode o }
+    ensures { result ≡ turned_code o }
 {
     match o {
         Turned::Came(r) => received(r),
@@ -102,7 +102,7 @@ pub fn turned(o: Turned) -> u64
 
 // The place of the datagram to send, or how many places were written down, or the hint for processing.
 pub fn turned_place(o: Turned, hint: usize) -> u64
-    ensures { result ≡ turnedPlace o hint }
+    ensures { result ≡ turned_place_of o hint }
 {
     match o {
         Turned::Came(_) => hint as u64,
@@ -115,7 +115,7 @@ pub fn turned_place(o: Turned, hint: usize) -> u64
 
 // Does memory keep a host?
 pub fn audited(b: bool) -> u64
-    ensures { result ≡ auditedCode b }
+    ensures { result ≡ audited_code b }
 {
     if b {
         return HOST;

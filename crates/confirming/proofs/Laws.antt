@@ -11,7 +11,7 @@ use lib.Seq.{get_or-set_same, get_or-set_other, get_or-drop}
 use Rattle.columns.proofs.Cases.{lt_or_ge, eq_or_ne}
 use Rattle.memory.specs.Bytes.{part}
 use Rattle.delivery.specs.Post.{Post, last, confirmed}
-use Rattle.delivery.specs.Memory.{Holding, Keeps, acknowledgedOf, last_of, capacity, markAt, number_at, datagramAt}
+use Rattle.delivery.specs.Memory.{Holding, Keeps, acknowledged_of, last_of, capacity, mark_at, number_at, datagram_at}
 use Rattle.delivery.proofs.Laws.{at_same, at_other, at_all}
 use Rattle.clearing.specs.Answers.{Cleared}
 use Rattle.confirming.specs.Answers.{One, Freed, Ahead}
@@ -118,7 +118,7 @@ module _ (c n i x : ℕ) (P : Post) (mark number mark' number' : ℕ → ℕ) (d
 pub record Told (counts : List ℕ) (i x : ℕ) (counts' : List ℕ) : Type 0 where
   pub long : length counts' ≡ length counts
   pub rest : (k : ℕ) → (k ≡ i * 3 + 1 → ⊥) → (k ≡ i * 3 + 2 → ⊥) → get_or counts' k 0 ≡ get_or counts k 0
-  pub acknowledged : acknowledgedOf counts' i ≡ x
+  pub acknowledged : acknowledged_of counts' i ≡ x
   pub kept : x ≤ last_of counts i → last_of counts' i ≡ last_of counts i
   pub raised : last_of counts i < x → last_of counts' i ≡ x
 
@@ -129,7 +129,7 @@ module _ (counts : List ℕ) (i x : ℕ) (within : i < length counts / 3) where
   one_long : length one ≡ length counts
   one_long = length-set counts (i * 3 + 1) x
 
-  one_ack : acknowledgedOf one i ≡ x
+  one_ack : acknowledged_of one i ≡ x
   one_ack = get_or-set_same counts (i * 3 + 1) x 0 (omega arith)
 
   one_last : last_of one i ≡ last_of counts i
@@ -156,13 +156,13 @@ module _ (counts : List ℕ) (i x : ℕ) (within : i < length counts / 3) where
 
 module _ (counts places mail : List ℕ) (size n : ℕ) (P : Post) (K : Keeps counts places mail size n P) (i x : ℕ) (peer : i < n)
     (new : P.acknowledged i < x) (counts' places' : List ℕ) (N : Told counts i x counts') (C : Cleared places (i + 1) x places') where
-  gone : (q : ℕ) → q < capacity places → markAt places q ≡ suc i → number_at places q ≤ x → markAt places' q ≡ 0
+  gone : (q : ℕ) → q < capacity places → mark_at places q ≡ suc i → number_at places q ≤ x → mark_at places' q ≡ 0
   gone q h m l = C.gone q h (m ∙ sym (add-one i)) l
 
-  other : (q : ℕ) → q < capacity places → (markAt places q ≡ suc i → x < number_at places q) → markAt places' q ≡ markAt places q
+  other : (q : ℕ) → q < capacity places → (mark_at places q ≡ suc i → x < number_at places q) → mark_at places' q ≡ mark_at places q
   other q h u = C.other q h (λ m. u (m ∙ add-one i))
 
-  datagrams : (q : ℕ) → q < capacity places → datagramAt places' mail size q ≡ datagramAt places mail size q
+  datagrams : (q : ℕ) → q < capacity places → datagram_at places' mail size q ≡ datagram_at places mail size q
   datagrams q h = ap (part mail (q * size)) (C.lengths q h)
 
   sent_same : last_of counts' i ≡ last (confirmed i x P) i
@@ -178,7 +178,7 @@ module _ (counts places mail : List ℕ) (size n : ℕ) (P : Post) (K : Keeps co
     fits_counts = omega (arith, K.fits_counts, N.long);
     fits_mail = subst (λ (l : ℕ). l / 3 * size ≤ length mail) (sym C.long) K.fits_mail;
     received = λ j h. N.rest (j * 3) (λ d. omega arith) (λ d. omega arith) ∙ K.received j h;
-    acknowledged = at_all (λ j v. j < n → acknowledgedOf counts' j ≡ v) i x P.acknowledged
+    acknowledged = at_all (λ j v. j < n → acknowledged_of counts' j ≡ v) i x P.acknowledged
         (λ h. N.acknowledged)
         (λ j e h. N.rest (j * 3 + 1) (λ d. e (omega arith)) (λ d. omega arith) ∙ K.acknowledged j h);
     sent = λ j h. ⊎_elim
@@ -187,18 +187,18 @@ module _ (counts places mail : List ℕ) (size n : ℕ) (P : Post) (K : Keeps co
         (eq_or_ne j i);
     short = λ q h t.
         let b : q < capacity places = omega (arith, h, C.long) in
-        let s = stays (i + 1) x (markAt places q) (number_at places q) (markAt places' q) (C.gone q b) (C.other q b) t in
+        let s = stays (i + 1) x (mark_at places q) (number_at places q) (mark_at places' q) (C.gone q b) (C.other q b) t in
         omega (arith, C.lengths q b, K.short q b (omega (arith, t, s.1)));
-    holding = subst (λ (l : ℕ). Holding (l / 3) (markAt places') (number_at places') (datagramAt places' mail size) n (confirmed i x P)) (sym C.long)
-        (holding_confirmed (capacity places) n i x P (markAt places) (number_at places) (markAt places') (number_at places') (datagramAt places mail size)
-        (datagramAt places' mail size) K.holding peer new gone other C.numbers datagrams);
+    holding = subst (λ (l : ℕ). Holding (l / 3) (mark_at places') (number_at places') (datagram_at places' mail size) n (confirmed i x P)) (sym C.long)
+        (holding_confirmed (capacity places) n i x P (mark_at places) (number_at places) (mark_at places') (number_at places') (datagram_at places mail size)
+        (datagram_at places' mail size) K.holding peer new gone other C.numbers datagrams);
   }
 
 -- ---- one place alone
 
 module _ {places : List ℕ} {mark x p : ℕ} where
   -- it is freed
-  pub freed_at : p < capacity places → markAt places p ≡ mark → number_at places p ≡ x → Freed places mark x (set places (p * 3) 0)
+  pub freed_at : p < capacity places → mark_at places p ≡ mark → number_at places p ≡ x → Freed places mark x (set places (p * 3) 0)
   freed_at within m l = record {
     long = length-set places (p * 3) 0;
     is = inl (
@@ -216,12 +216,12 @@ module _ {places : List ℕ} {mark x p : ℕ} where
   }
 
 -- there is none
-pub freed_none : {places : List ℕ} {mark x : ℕ} → ((q : ℕ) → q < capacity places → markAt places q ≡ mark → number_at places q ≡ x → ⊥) → Freed places mark x places
+pub freed_none : {places : List ℕ} {mark x : ℕ} → ((q : ℕ) → q < capacity places → mark_at places q ≡ mark → number_at places q ≡ x → ⊥) → Freed places mark x places
 freed_none n = record { long = refl; is = inr (refl, n); numbers = λ q. refl; lengths = λ q. refl }
 
 -- what waits for a peer is above what it has acknowledged
 pub ahead_kept : {counts places mail : List ℕ} {size n : ℕ} {P : Post} {i : ℕ} → Keeps counts places mail size n P → i < n
-    → Ahead places (i + 1) (acknowledgedOf counts i)
+    → Ahead places (i + 1) (acknowledged_of counts i)
 ahead_kept {counts} {places} {mail} {size} {n} {P} {i} K h = record {
   above = λ p w m. let o = K.holding.only p i w (m ∙ add-one i) in omega (arith, o.1, K.acknowledged i h);
   apart = λ p q v w m k e. K.holding.apart p q v w (omega (arith, m)) (m ∙ sym k) e;
@@ -238,41 +238,41 @@ freed_clears {places} {mark} {before} {x} {places'} A e F = record {
   lengths = λ p h. F.lengths p;
 }
   where
-    exact : (p : ℕ) → p < capacity places → markAt places p ≡ mark → number_at places p ≤ x → number_at places p ≡ x
+    exact : (p : ℕ) → p < capacity places → mark_at places p ≡ mark → number_at places p ≤ x → number_at places p ≡ x
     exact p h m l = let a = A.above p h m in omega (arith, a, e, l)
 
-    gone : (p : ℕ) → p < capacity places → markAt places p ≡ mark → number_at places p ≤ x
-        → ((q : ℕ) × One places mark x q places') ⊎ ((places' ≡ places) × ((q : ℕ) → q < capacity places → markAt places q ≡ mark → number_at places q ≡ x → ⊥))
-        → markAt places' p ≡ 0
+    gone : (p : ℕ) → p < capacity places → mark_at places p ≡ mark → number_at places p ≤ x
+        → ((q : ℕ) × One places mark x q places') ⊎ ((places' ≡ places) × ((q : ℕ) → q < capacity places → mark_at places q ≡ mark → number_at places q ≡ x → ⊥))
+        → mark_at places' p ≡ 0
     gone p h m l (inl (q, O)) =
         let d : p ≡ q = A.apart p q h O.within m O.marked (exact p h m l ∙ sym O.numbered) in
-        subst (λ (j : ℕ). markAt places' j ≡ 0) (sym d) O.gone
+        subst (λ (j : ℕ). mark_at places' j ≡ 0) (sym d) O.gone
     gone p h m l (inr (same, none)) = absurd (none p h m (exact p h m l))
 
-    other : (p : ℕ) → p < capacity places → (markAt places p ≡ mark → x < number_at places p)
-        → ((q : ℕ) × One places mark x q places') ⊎ ((places' ≡ places) × ((q : ℕ) → q < capacity places → markAt places q ≡ mark → number_at places q ≡ x → ⊥))
-        → markAt places' p ≡ markAt places p
+    other : (p : ℕ) → p < capacity places → (mark_at places p ≡ mark → x < number_at places p)
+        → ((q : ℕ) × One places mark x q places') ⊎ ((places' ≡ places) × ((q : ℕ) → q < capacity places → mark_at places q ≡ mark → number_at places q ≡ x → ⊥))
+        → mark_at places' p ≡ mark_at places p
     other p h u (inl (q, O)) = ⊎_elim
         (λ (d : p ≡ q).
-        let m : markAt places p ≡ mark = ap (markAt places) d ∙ O.marked in
+        let m : mark_at places p ≡ mark = ap (mark_at places) d ∙ O.marked in
         let k : number_at places p ≡ x = ap (number_at places) d ∙ O.numbered in
         absurd (omega (arith, u m, k)))
         (λ d. O.other p d)
         (eq_or_ne p q)
-    other p h u (inr (same, none)) = ap (λ (l : List ℕ). markAt l p) same
+    other p h u (inr (same, none)) = ap (λ (l : List ℕ). mark_at l p) same
 
 -- the first p places are looked at, and none is the one
 pub record Sought (places : List ℕ) (mark x p : ℕ) (places' : List ℕ) : Type 0 where
   pub long : length places' ≡ length places
   pub same : places' ≡ places
-  pub none : (q : ℕ) → q < p → markAt places' q ≡ mark → number_at places' q ≡ x → ⊥
+  pub none : (q : ℕ) → q < p → mark_at places' q ≡ mark → number_at places' q ≡ x → ⊥
 
 pub sought_none : (places : List ℕ) (mark x : ℕ) → Sought places mark x 0 places
 sought_none places mark x = record { long = refl; same = refl; none = λ q h. absurd (omega (arith, h)) }
 
 module _ {places : List ℕ} {mark x p : ℕ} {places' : List ℕ} (S : Sought places mark x p places') where
   -- nor is the next
-  pub sought_next : (markAt places' p ≡ mark → number_at places' p ≡ x → ⊥) → Sought places mark x (p + 1) places'
+  pub sought_next : (mark_at places' p ≡ mark → number_at places' p ≡ x → ⊥) → Sought places mark x (p + 1) places'
   sought_next u = record {
     long = S.long;
     same = S.same;
@@ -280,12 +280,12 @@ module _ {places : List ℕ} {mark x p : ℕ} {places' : List ℕ} (S : Sought p
         (λ l. S.none q l m e)
         (λ l.
         let d : q ≡ p = omega (arith, h, l) in
-        u (ap (markAt places') (sym d) ∙ m) (ap (number_at places') (sym d) ∙ e))
+        u (ap (mark_at places') (sym d) ∙ m) (ap (number_at places') (sym d) ∙ e))
         (lt_or_ge q p);
   }
 
   -- the next is
-  pub sought_found : p < capacity places' → markAt places' p ≡ mark → number_at places' p ≡ x → Freed places mark x (set places' (p * 3) 0)
+  pub sought_found : p < capacity places' → mark_at places' p ≡ mark → number_at places' p ≡ x → Freed places mark x (set places' (p * 3) 0)
   sought_found h m e = subst (λ (l : List ℕ). Freed l mark x (set places' (p * 3) 0)) S.same (freed_at h m e)
 
   -- there are no more

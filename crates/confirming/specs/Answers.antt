@@ -2,7 +2,7 @@
 -- Assumes nothing.
 use Rattle.std.specs.Prelude.{◌≡◌, List, ◌⊎◌, ℕ, ◌<◌, length}
 use Rattle.delivery.specs.Post.{Post, confirmed}
-use Rattle.delivery.specs.Memory.{Keeps, capacity, markAt, number_at, length_at}
+use Rattle.delivery.specs.Memory.{Keeps, capacity, mark_at, number_at, length_at}
 use Rattle.clearing.specs.Answers.{Cleared}
 
 -- the messages up to the number x have arrived at the peer
@@ -13,22 +13,22 @@ pub record AfterConfirm (counts places : List ℕ) (peer x : ℕ) (counts' place
 -- p is the one place that is free now
 pub record One (places : List ℕ) (mark x p : ℕ) (places' : List ℕ) : Type 0 where
   pub within : p < capacity places
-  pub marked : markAt places p ≡ mark
+  pub marked : mark_at places p ≡ mark
   pub numbered : number_at places p ≡ x
-  pub gone : markAt places' p ≡ 0
-  pub other : (q : ℕ) → (q ≡ p → ⊥) → markAt places' q ≡ markAt places q
+  pub gone : mark_at places' p ≡ 0
+  pub other : (q : ℕ) → (q ≡ p → ⊥) → mark_at places' q ≡ mark_at places q
 
 -- one place with that mark and the number x is free now, or there was none
 pub record Freed (places : List ℕ) (mark x : ℕ) (places' : List ℕ) : Type 0 where
   pub long : length places' ≡ length places
-  pub is : ((p : ℕ) × One places mark x p places') ⊎ ((places' ≡ places) × ((p : ℕ) → p < capacity places → markAt places p ≡ mark → number_at places p ≡ x → ⊥))
+  pub is : ((p : ℕ) × One places mark x p places') ⊎ ((places' ≡ places) × ((p : ℕ) → p < capacity places → mark_at places p ≡ mark → number_at places p ≡ x → ⊥))
   pub numbers : (p : ℕ) → number_at places' p ≡ number_at places p
   pub lengths : (p : ℕ) → length_at places' p ≡ length_at places p
 
 -- no number up to `before` waits under that mark, and no two places have the same
 pub record Ahead (places : List ℕ) (mark before : ℕ) : Type 0 where
-  pub above : (p : ℕ) → p < capacity places → markAt places p ≡ mark → before < number_at places p
-  pub apart : (p q : ℕ) → p < capacity places → q < capacity places → markAt places p ≡ mark → markAt places q ≡ mark → number_at places p ≡ number_at places q → p ≡ q
+  pub above : (p : ℕ) → p < capacity places → mark_at places p ≡ mark → before < number_at places p
+  pub apart : (p q : ℕ) → p < capacity places → q < capacity places → mark_at places p ≡ mark → mark_at places q ≡ mark → number_at places p ≡ number_at places q → p ≡ q
 
 -- if all that waits under that mark is above `before`, exactly the places with it and a number up to x are free now
 abbrev pub Released : (places : List ℕ) → (mark before x : ℕ) → List ℕ → Type 0

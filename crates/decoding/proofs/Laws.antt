@@ -18,9 +18,9 @@ use Rattle.message.specs.View.{bytes_of, body_of}
 use Rattle.message.specs.Answers.{AfterParse}
 use Rattle.message.specs.declared.Parsed.{Parsed}
 use Rattle.message.specs.declared.Parsed.TheVariants.{Message, Ack, Invalid}
-use Rattle.message.specs.Table.{datagram, datagramValue, datagramIs, written, Valid}
+use Rattle.message.specs.Table.{datagram, datagram_value, datagram_is, written, Valid}
 use Rattle.message.proofs.Laws.{same_datagram}
-use Rattle.decoding.specs.Decode.{same, good, bind, entryAnd, list_of, value_of, taken, checked, read}
+use Rattle.decoding.specs.Decode.{same, good, bind, entry_and, list_of, value_of, taken, checked, read}
 use Rattle.decoding.proofs.Decided.{same_true, same_refl, good_true, good_of}
 
 -- ---- a candidate is found where a value is written
@@ -105,27 +105,27 @@ found (entries limit) l h r =
 pub read_written : (m : Datagram) → Valid m → read (written m) ≡ some m
 read_written m h =
     let w : List ℕ = written m in
-    let e : value_of datagram w ≡ some (datagramValue m, []) =
-    ap (value_of datagram) (sym (append-nil w)) ∙ found datagram (datagramValue m) h [] in
-    let t : good datagram (datagramValue m) && same w w ≡ true =
-    (and-eq-true_iff (good datagram (datagramValue m)) (same w w)).1 (good_of datagram (datagramValue m) h, same_refl w) in
+    let e : value_of datagram w ≡ some (datagram_value m, []) =
+    ap (value_of datagram) (sym (append-nil w)) ∙ found datagram (datagram_value m) h [] in
+    let t : good datagram (datagram_value m) && same w w ≡ true =
+    (and-eq-true_iff (good datagram (datagram_value m)) (same w w)).1 (good_of datagram (datagram_value m) h, same_refl w) in
     rw (e, same_datagram m, t) refl
 
 -- what is read is a message, and is written as those bytes
 pub read_some : (s : List ℕ) (m : Datagram) → read s ≡ some m → Valid m × (written m ≡ s)
 read_some s m e = go (value_of datagram s) e
   where
-    chosen : (t : Bool) (x : Datagram) → good datagram (datagramValue x) && same (written x) s ≡ t → cond t (some x) none ≡ some m
+    chosen : (t : Bool) (x : Datagram) → good datagram (datagram_value x) && same (written x) s ≡ t → cond t (some x) none ≡ some m
         → Valid m × (written m ≡ s)
     chosen true x q h =
-        let u = (and-eq-true_iff (good datagram (datagramValue x)) (same (written x) s)).0 q in
+        let u = (and-eq-true_iff (good datagram (datagram_value x)) (same (written x) s)).0 q in
         let k : x ≡ m = some-injective x m h in
-        subst (λ (y : Datagram). Valid y × (written y ≡ s)) k (good_true datagram (datagramValue x) u.0, same_true (written x) s u.1)
+        subst (λ (y : Datagram). Valid y × (written y ≡ s)) k (good_true datagram (datagram_value x) u.0, same_true (written x) s u.1)
     chosen false x q h = absurd (none-ne-some m h)
 
     go : (o : Option (Of datagram × List ℕ)) → checked s o ≡ some m → Valid m × (written m ≡ s)
     go none h = absurd (none-ne-some m h)
-    go (some p) h = chosen _ (datagramIs p.0.0 p.0.1) refl h
+    go (some p) h = chosen _ (datagram_is p.0.0 p.0.1) refl h
 
 -- where nothing is read, no message is written as those bytes
 pub read_none : (s : List ℕ) → read s ≡ none → (m : Datagram) → Valid m → written m ≡ s → ⊥

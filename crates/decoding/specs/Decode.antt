@@ -7,7 +7,7 @@ use Rattle.std.proofs.Math.Option.{Option, none, some}
 use Rattle.format.specs.Number.{width, numbers, worth}
 use Rattle.format.specs.Format.{Format, number, string, maybe, pair, choice, entries, Entry, Of, listing, encode}
 use Rattle.message.specs.Message.{Datagram}
-use Rattle.message.specs.Table.{datagram, datagramValue, datagramIs, written}
+use Rattle.message.specs.Table.{datagram, datagram_value, datagram_is, written}
 
 -- ---- tests that compute
 
@@ -43,14 +43,14 @@ bind none f = none
 bind (some a) f = f a
 
 -- an entry at the front of the bytes, before the others
-abbrev pub entryAnd : List ℕ → List Entry × List ℕ → List Entry × List ℕ
-entryAnd s more =
+abbrev pub entry_and : List ℕ → List Entry × List ℕ → List Entry × List ℕ
+entry_and s more =
     (record { key = worth s 0 width; value = take (worth s width width) (drop (width + width) s) } ∷ more.0, more.1)
 
 -- n entries at the front of the bytes; fewer where the bytes run out
 unfoldable pub list_of : ℕ → List ℕ → List Entry × List ℕ
 list_of zero s = ([], s)
-list_of (suc n) s = cond (eqb (length s) 0) ([], []) (entryAnd s (list_of n (drop (worth s width width) (drop (width + width) s))))
+list_of (suc n) s = cond (eqb (length s) 0) ([], []) (entry_and s (list_of n (drop (worth s width width) (drop (width + width) s))))
 
 unfoldable pub value_of : (f : Format) → List ℕ → Option (Of f × List ℕ)
 value_of number s = some (worth s 0 width, drop width s)
@@ -66,11 +66,11 @@ value_of (entries limit) s = some (list_of (worth s 0 width) (drop width s))
 
 -- the candidate is taken if it may be written and is written as those bytes
 abbrev pub taken : List ℕ → Datagram → Option Datagram
-taken s m = cond (good datagram (datagramValue m) && same (written m) s) (some m) none
+taken s m = cond (good datagram (datagram_value m) && same (written m) s) (some m) none
 
 abbrev pub checked : List ℕ → Option (Of datagram × List ℕ) → Option Datagram
 checked s none = none
-checked s (some p) = taken s (datagramIs p.0.0 p.0.1)
+checked s (some p) = taken s (datagram_is p.0.0 p.0.1)
 
 -- the message that the bytes are, if they are one
 abbrev pub read : List ℕ → Option Datagram

@@ -10,7 +10,7 @@ use lib.ListN.{length, get_or, set, drop}
 use lib.Seq.{get_or-set_same, get_or-set_other, get_or-drop, drop-drop}
 use lib.Dec.{ltb}
 use borrow.Author.Tests.{lt-ltb, le-ltb}
-use Rattle.limits.specs.Limits.{valueMax}
+use Rattle.limits.specs.Limits.{value_max}
 use Rattle.columns.proofs.Cases.{eq_or_ne}
 use Rattle.memory.specs.Bytes.{part}
 use Rattle.memory.proofs.Parts.{length_part}
@@ -21,7 +21,7 @@ use Rattle.lists.specs.declared.RowRead.{RowRead}
 use Rattle.lists.specs.declared.RowRead.TheVariants.{Is, Missing}
 use Rattle.lists.specs.Answers.{ReadRow}
 use Rattle.lists.proofs.Laws.{goes_on}
-use Rattle.protocol.specs.Process.{anyLong}
+use Rattle.protocol.specs.Process.{any_long}
 use Rattle.delegates.specs.Answers.{entry_at, Row, Filled}
 
 -- ---- the next entry of a list
@@ -30,9 +30,9 @@ abbrev told : RowRead → ℕ × Part
 told (Is k p) = (k, p)
 told Missing = (0, record { at = 0; len = 0 })
 
-abbrev isThere : RowRead → Bool
-isThere (Is k p) = true
-isThere Missing = false
+abbrev is_there : RowRead → Bool
+is_there (Is k p) = true
+is_there Missing = false
 
 module _ {s : List ℕ} {at n low next : ℕ} (l : List Entry) (R : Rest s at n low l next) (some : 0 < n) where
   next_row : (k : ℕ) (p : Part) → ReadRow s at (Is k p)
@@ -48,13 +48,13 @@ module _ {s : List ℕ} {at n low next : ℕ} (l : List Entry) (R : Rest s at n 
       (u.3, v.0, v.1)
 
   next_there : ReadRow s at Missing → ⊥
-  next_there A = false≢true (ap isThere (goes_on l R some Missing A).2)
+  next_there A = false≢true (ap is_there (goes_on l R some Missing A).2)
 
 -- ---- the first i entries of the list from place `from` on are written down, and the others stand from place `at` on
 
 pub record Going (s : List ℕ) (from m at i : ℕ) (ks ats ls : List ℕ) : Type 0 where
   pub is : (next : ℕ) → Rest s from m 0 (listed s from m) next
-      → (low : ℕ) × Rest s at (m - i) low (drop i (listed s from m)) next × (anyLong (listed s from m) ≡ anyLong (drop i (listed s from m)))
+      → (low : ℕ) × Rest s at (m - i) low (drop i (listed s from m)) next × (any_long (listed s from m) ≡ any_long (drop i (listed s from m)))
       × ((x : ℕ) → x < i → Row s (listed s from m) ks ats ls x)
 
 pub going_start : (s : List ℕ) (from m : ℕ) (ks ats ls : List ℕ) → Going s from m from 0 ks ats ls
@@ -76,18 +76,18 @@ module _ {s : List ℕ} {from m at i : ℕ} {ks ats ls : List ℕ} (G : Going s 
     abbrev entry : Entry
     entry = record { key = k; value = part s p.at p.len }
 
-    long_is : (t : Bool) → ltb valueMax p.len ≡ t → ltb valueMax (length entry.value) ≡ t
-    long_is t e = ap (ltb valueMax) (length_part s p.at p.len within) ∙ e
+    long_is : (t : Bool) → ltb value_max p.len ≡ t → ltb value_max (length entry.value) ≡ t
+    long_is t e = ap (ltb value_max) (length_part s p.at p.len within) ∙ e
 
     -- its value may be too long
-    pub going_long : valueMax < p.len → (next : ℕ) → Rest s from m 0 (listed s from m) next → anyLong (listed s from m) ≡ true
+    pub going_long : value_max < p.len → (next : ℕ) → Rest s from m 0 (listed s from m) next → any_long (listed s from m) ≡ true
     going_long h next R =
         let g = G.is next R in
         let u = next_row (drop i (listed s from m)) g.1 (omega arith) k p A in
-        g.2 ∙ ap anyLong u.1 ∙ ap (λ (t : Bool). t || anyLong u.0) (long_is true (lt-ltb valueMax p.len h))
+        g.2 ∙ ap any_long u.1 ∙ ap (λ (t : Bool). t || any_long u.0) (long_is true (lt-ltb value_max p.len h))
 
     -- else it is written down
-    module _ (short : p.len ≤ valueMax) (fk : i < length ks) (fa : i < length ats) (fl : i < length ls) where
+    module _ (short : p.len ≤ value_max) (fk : i < length ks) (fa : i < length ats) (fl : i < length ls) where
       row_here : entry_at (listed s from m) i ≡ entry → Row s (listed s from m) (set ks i k) (set ats i p.at) (set ls i p.len) i
       row_here e =
           let ea : get_or (set ats i p.at) i 0 ≡ p.at = get_or-set_same ats i p.at 0 fa in
@@ -125,7 +125,7 @@ module _ {s : List ℕ} {from m at i : ℕ} {ks ats ls : List ℕ} (G : Going s 
               suc k,
               subst (λ (n : ℕ). Rest s (p.at + p.len) n (suc k) (drop (i + 1) es) next) less
                   (subst (λ (l : List Entry). Rest s (p.at + p.len) (m - i - 1) (suc k) l next) (sym rest) u.2),
-              g.2 ∙ ap anyLong u.1 ∙ ap (λ (t : Bool). t || anyLong u.0) (long_is false (le-ltb valueMax p.len short)) ∙ ap anyLong (sym rest),
+              g.2 ∙ ap any_long u.1 ∙ ap (λ (t : Bool). t || any_long u.0) (long_is false (le-ltb value_max p.len short)) ∙ ap any_long (sym rest),
               λ x r.
                   ⊎_elim
                   (λ (e : x ≡ i). subst (λ (y : ℕ). Row s es (set ks i k) (set ats i p.at) (set ls i p.len) y) (sym e) (row_here here))
@@ -134,14 +134,14 @@ module _ {s : List ℕ} {from m at i : ℕ} {ks ats ls : List ℕ} (G : Going s 
             );
       }
 
-none_long : (l : List Entry) → length l ≡ 0 → anyLong l ≡ false
+none_long : (l : List Entry) → length l ≡ 0 → any_long l ≡ false
 none_long [] e = refl
 none_long (x ∷ l) e = absurd (omega arith)
 
 -- .. until all are written down
 pub going_end : {s : List ℕ} {from m at i : ℕ} {ks ats ls : List ℕ} → Going s from m at i ks ats ls → i ≡ m → m ≤ length ks → m ≤ length ats
     → m ≤ length ls → (next : ℕ) → Rest s from m 0 (listed s from m) next
-    → (anyLong (listed s from m) ≡ false) × Filled s (listed s from m) ks ats ls
+    → (any_long (listed s from m) ≡ false) × Filled s (listed s from m) ks ats ls
 going_end {s} {from} {m} {at} {i} {ks} {ats} {ls} G e fk fa fl next R =
     let g = G.is next R in (
       g.2 ∙ none_long (drop i (listed s from m)) (omega (arith, g.1.count)),

@@ -6,7 +6,7 @@ use mathlib.Core.List.{List, [], ◌∷◌, ◌++◌}
 use Prim.Native.Nat.{ℕ, zero, suc, ◌+◌, ◌-◌, ◌≤◌, ◌<◌}
 use native.Mathlib.Omega.{arith}
 use lib.ListN.{length, get_or, length-append}
-use Rattle.limits.specs.Limits.{bytesMax}
+use Rattle.limits.specs.Limits.{bytes_max}
 use Rattle.memory.specs.Bytes.{placed, part}
 use Rattle.memory.proofs.Parts.{length_placed, placed_then, length_part}
 use Rattle.columns.specs.Column.{Rising}
@@ -130,16 +130,16 @@ module _ (ks ats ls bytes : List ℕ) where
     above r i (suc k) low h f =
         (f (omega arith), above r (suc i) k (suc (get_or ks i 0)) (omega arith) (λ q. r i (suc i) (omega arith) (omega arith)))
 
-    pub entered_good : Rising ks m → ((i : ℕ) → get_or ks i 0 < numbers) → length bytes < numbers → m < numbers → width + sizes ls 0 m ≤ bytesMax
-        → Good (entries bytesMax) (entered ks ats ls bytes 0 m)
+    pub entered_good : Rising ks m → ((i : ℕ) → get_or ks i 0 < numbers) → length bytes < numbers → m < numbers → width + sizes ls 0 m ≤ bytes_max
+        → Good (entries bytes_max) (entered ks ats ls bytes 0 m)
     entered_good r b s c z = (
       subst (λ (n : ℕ). n < numbers) (sym (entered_length 0 m)) c,
       small b s 0 m (omega arith),
       above r 0 m 0 (omega arith) (λ q. omega arith),
-      subst (λ (n : ℕ). n ≤ bytesMax) (sym listing_size) z,
+      subst (λ (n : ℕ). n ≤ bytes_max) (sym listing_size) z,
     )
 
-    pub entered_long : bytesMax < width + sizes ls 0 m → Good (entries bytesMax) (entered ks ats ls bytes 0 m) → ⊥
+    pub entered_long : bytes_max < width + sizes ls 0 m → Good (entries bytes_max) (entered ks ats ls bytes 0 m) → ⊥
     entered_long z g = omega (arith, g.3, listing_size, z)
 
   -- keys that do not rise are refused rightly

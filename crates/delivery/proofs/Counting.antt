@@ -9,7 +9,7 @@ use native.Mathlib.Omega.{arith}
 use lib.ListN.{length}
 use Rattle.columns.proofs.Cases.{lt_or_ge, eq_or_ne}
 use Rattle.delivery.specs.Post.{Post, at, total}
-use Rattle.delivery.specs.Memory.{capacity, markAt, number_at, Holding, Keeps}
+use Rattle.delivery.specs.Memory.{capacity, mark_at, number_at, Holding, Keeps}
 use Rattle.delivery.proofs.Laws.{at_same, at_other}
 
 -- ---- m things in c places
@@ -122,17 +122,17 @@ module _ {counts places mail : List ℕ} {size n : ℕ} {P : Post} (K : Keeps co
   -- all that waits fits
   pub keeps_fits : total n P ≤ capacity places
   keeps_fits =
-      as_few (total n P) (capacity places) (Filed (markAt places) (number_at places) P) (filed K.holding) (λ k l p. same_rank)
+      as_few (total n P) (capacity places) (Filed (mark_at places) (number_at places) P) (filed K.holding) (λ k l p. same_rank)
 
   -- .. with a place left over if one is free
-  pub keeps_one_free : (p : ℕ) → p < capacity places → markAt places p ≡ 0 → total n P < capacity places
+  pub keeps_one_free : (p : ℕ) → p < capacity places → mark_at places p ≡ 0 → total n P < capacity places
   keeps_one_free p h z =
-      fewer (total n P) (capacity places) (Filed (markAt places) (number_at places) P) (filed K.holding) (λ k l q. same_rank) p h
+      fewer (total n P) (capacity places) (Filed (mark_at places) (number_at places) P) (filed K.holding) (λ k l q. same_rank) p h
       (λ k b r. omega (arith, r.mark_is))
 
   -- .. and no place is left over if none is free
-  pub keeps_all_taken : ((p : ℕ) → p < capacity places → 0 < markAt places p) → capacity places ≤ total n P
+  pub keeps_all_taken : ((p : ℕ) → p < capacity places → 0 < mark_at places p) → capacity places ≤ total n P
   keeps_all_taken u =
-      as_few (capacity places) (total n P) (λ p k. (p < capacity places) × Filed (markAt places) (number_at places) P k p)
+      as_few (capacity places) (total n P) (λ p k. (p < capacity places) × Filed (mark_at places) (number_at places) P k p)
       (λ p h. let r = used K.holding p h (u p h) in (r.0, r.1, (h, r.2)))
       (λ p q k x y. same_place K.holding x.0 y.0 x.1 y.1)

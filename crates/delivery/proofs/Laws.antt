@@ -10,7 +10,7 @@ use lib.Seq.{get_or-set_same, get_or-set_other}
 use borrow.Author.Tests.{ne_eqb, eq-eqb}
 use Rattle.columns.proofs.Cases.{eq_or_ne}
 use Rattle.delivery.specs.Post.{Post, at, nothing, last, took, joined}
-use Rattle.delivery.specs.Memory.{receivedOf, acknowledgedOf, last_of, capacity, markAt, number_at, datagramAt, Keeps}
+use Rattle.delivery.specs.Memory.{received_of, acknowledged_of, last_of, capacity, mark_at, number_at, datagram_at, Keeps}
 
 -- ---- a function changed for one peer
 
@@ -36,7 +36,7 @@ module _ (counts places mail : List ℕ) (size n : ℕ) (P : Post) (K : Keeps co
     wide = K.wide;
     fits_counts = omega (arith, K.fits_counts, length-set counts (i * 3) x);
     fits_mail = K.fits_mail;
-    received = λ j q. at_all (λ j v. j < n → receivedOf (set counts (i * 3) x) j ≡ v) i x P.received
+    received = λ j q. at_all (λ j v. j < n → received_of (set counts (i * 3) x) j ≡ v) i x P.received
         (λ q. get_or-set_same counts (i * 3) x 0 (omega (arith, K.fits_counts)))
         (λ j e q. get_or-set_other counts (i * 3) (j * 3) x 0 (λ d. e (omega arith)) ∙ K.received j q)
         j
@@ -50,8 +50,8 @@ module _ (counts places mail : List ℕ) (size n : ℕ) (P : Post) (K : Keeps co
   -- ---- a new peer
 
   joined_here : (i j : ℕ) → i < n + 1 → j < length ((joined n P).waiting i)
-      → (p : ℕ) × (p < capacity places) × (markAt places p ≡ suc i) × (number_at places p ≡ suc ((joined n P).acknowledged i + j))
-      × (datagramAt places mail size p ≡ get_or ((joined n P).waiting i) j [])
+      → (p : ℕ) × (p < capacity places) × (mark_at places p ≡ suc i) × (number_at places p ≡ suc ((joined n P).acknowledged i + j))
+      × (datagram_at places mail size p ≡ get_or ((joined n P).waiting i) j [])
   joined_here i j h q =
       ⊎_elim
       (λ (e : i ≡ n).
@@ -64,7 +64,7 @@ module _ (counts places mail : List ℕ) (size n : ℕ) (P : Post) (K : Keeps co
       rw (w, a) r)
       (eq_or_ne i n)
 
-  joined_only : (p i : ℕ) → p < capacity places → markAt places p ≡ suc i
+  joined_only : (p i : ℕ) → p < capacity places → mark_at places p ≡ suc i
       → (i < n + 1) × ((joined n P).acknowledged i < number_at places p) × (number_at places p ≤ last (joined n P) i)
   joined_only p i h m =
       let o = K.holding.only p i h m in
@@ -74,16 +74,16 @@ module _ (counts places mail : List ℕ) (size n : ℕ) (P : Post) (K : Keeps co
       (omega (arith, o.0), omega (arith, a, o.1), omega (arith, a, ap length w, o.2))
 
   pub keeps_joined : (counts' : List ℕ) → (n + 1) * 3 ≤ length counts' → ((k : ℕ) → k < n * 3 → get_or counts' k 0 ≡ get_or counts k 0)
-      → receivedOf counts' n ≡ 0 → acknowledgedOf counts' n ≡ 0 → last_of counts' n ≡ 0
+      → received_of counts' n ≡ 0 → acknowledged_of counts' n ≡ 0 → last_of counts' n ≡ 0
       → Keeps counts' places mail size (n + 1) (joined n P)
   keeps_joined counts' f old r a l = record {
     wide = K.wide;
     fits_counts = f;
     fits_mail = K.fits_mail;
-    received = at_all (λ j v. j < n + 1 → receivedOf counts' j ≡ v) n 0 P.received
+    received = at_all (λ j v. j < n + 1 → received_of counts' j ≡ v) n 0 P.received
         (λ q. r)
         (λ j e q. old (j * 3) (omega arith) ∙ K.received j (omega arith));
-    acknowledged = at_all (λ j v. j < n + 1 → acknowledgedOf counts' j ≡ v) n 0 P.acknowledged
+    acknowledged = at_all (λ j v. j < n + 1 → acknowledged_of counts' j ≡ v) n 0 P.acknowledged
         (λ q. a)
         (λ j e q. old (j * 3 + 1) (omega arith) ∙ K.acknowledged j (omega arith));
     sent = λ j q.

@@ -9,11 +9,11 @@ use Rattle.delivery.specs.Post.{Post, last}
 
 -- ---- the words of a peer
 
-abbrev pub receivedOf : List ℕ → ℕ → ℕ
-receivedOf counts i = get_or counts (i * 3) 0
+abbrev pub received_of : List ℕ → ℕ → ℕ
+received_of counts i = get_or counts (i * 3) 0
 
-abbrev pub acknowledgedOf : List ℕ → ℕ → ℕ
-acknowledgedOf counts i = get_or counts (i * 3 + 1) 0
+abbrev pub acknowledged_of : List ℕ → ℕ → ℕ
+acknowledged_of counts i = get_or counts (i * 3 + 1) 0
 
 abbrev pub last_of : List ℕ → ℕ → ℕ
 last_of counts i = get_or counts (i * 3 + 2) 0
@@ -25,8 +25,8 @@ abbrev pub capacity : List ℕ → ℕ
 capacity places = length places / 3
 
 -- 0 for a free place, and one more than the peer's number else
-abbrev pub markAt : List ℕ → ℕ → ℕ
-markAt places p = get_or places (p * 3) 0
+abbrev pub mark_at : List ℕ → ℕ → ℕ
+mark_at places p = get_or places (p * 3) 0
 
 abbrev pub number_at : List ℕ → ℕ → ℕ
 number_at places p = get_or places (p * 3 + 1) 0
@@ -34,8 +34,8 @@ number_at places p = get_or places (p * 3 + 1) 0
 abbrev pub length_at : List ℕ → ℕ → ℕ
 length_at places p = get_or places (p * 3 + 2) 0
 
-abbrev pub datagramAt : (places mail : List ℕ) → ℕ → ℕ → List ℕ
-datagramAt places mail size p = part mail (p * size) (length_at places p)
+abbrev pub datagram_at : (places mail : List ℕ) → ℕ → ℕ → List ℕ
+datagram_at places mail size p = part mail (p * size) (length_at places p)
 
 -- ---- what is kept
 
@@ -51,20 +51,20 @@ pub record Keeps (counts places mail : List ℕ) (size n : ℕ) (P : Post) : Typ
   pub wide : 0 < size
   pub fits_counts : n * 3 ≤ length counts
   pub fits_mail : capacity places * size ≤ length mail
-  pub received : (i : ℕ) → i < n → receivedOf counts i ≡ P.received i
-  pub acknowledged : (i : ℕ) → i < n → acknowledgedOf counts i ≡ P.acknowledged i
+  pub received : (i : ℕ) → i < n → received_of counts i ≡ P.received i
+  pub acknowledged : (i : ℕ) → i < n → acknowledged_of counts i ≡ P.acknowledged i
   pub sent : (i : ℕ) → i < n → last_of counts i ≡ last P i
-  pub short : (p : ℕ) → p < capacity places → 0 < markAt places p → length_at places p ≤ size
-  pub holding : Holding (capacity places) (markAt places) (number_at places) (datagramAt places mail size) n P
+  pub short : (p : ℕ) → p < capacity places → 0 < mark_at places p → length_at places p ≤ size
+  pub holding : Holding (capacity places) (mark_at places) (number_at places) (datagram_at places mail size) n P
 
 -- place p is there, and free
 pub record Open (places : List ℕ) (p : ℕ) : Type 0 where
   pub within : p < capacity places
-  pub free : markAt places p ≡ 0
+  pub free : mark_at places p ≡ 0
 
 -- the datagram stands in place p, for peer i, with the number x
 pub record Standing (places mail : List ℕ) (size p i x : ℕ) (bytes : List ℕ) : Type 0 where
   pub within : p < capacity places
-  pub mark : markAt places p ≡ suc i
+  pub mark : mark_at places p ≡ suc i
   pub number : number_at places p ≡ x
-  pub is : datagramAt places mail size p ≡ bytes
+  pub is : datagram_at places mail size p ≡ bytes

@@ -1,7 +1,7 @@
 -- A list of entries as it is handed in, and what a look at it answers.
 -- Assumes nothing.
 use Rattle.std.specs.Prelude.{List, ℕ, ◌+◌, ◌≤◌, ◌<◌, length, get_or}
-use Rattle.limits.specs.Limits.{valueMax}
+use Rattle.limits.specs.Limits.{value_max}
 use Rattle.columns.specs.Column.{Rising}
 use Rattle.entered.specs.declared.Look.{Look}
 use Rattle.entered.specs.declared.Look.TheVariants.{Fine, Long, Bad}
@@ -17,8 +17,8 @@ pub record Entered (ks ats ls bytes : List ℕ) (m : ℕ) : Type 0 where
 
 -- the list is well formed and no value is too long, or some value is, or it is not well formed
 abbrev pub CheckCases : Look → (ks ats ls bytes : List ℕ) → ℕ → Type 0
-CheckCases Fine ks ats ls bytes m = Entered ks ats ls bytes m × ((i : ℕ) → i < m → get_or ls i 0 ≤ valueMax)
-CheckCases Long ks ats ls bytes m = (i : ℕ) × (i < m) × (valueMax < get_or ls i 0)
+CheckCases Fine ks ats ls bytes m = Entered ks ats ls bytes m × ((i : ℕ) → i < m → get_or ls i 0 ≤ value_max)
+CheckCases Long ks ats ls bytes m = (i : ℕ) × (i < m) × (value_max < get_or ls i 0)
 CheckCases Bad ks ats ls bytes m = Entered ks ats ls bytes m → ⊥
 
 pub record Checked (ks ats ls bytes : List ℕ) (m : ℕ) (r : Look) : Type 0 where

@@ -2,7 +2,7 @@
 -- Assumes nothing.
 use Rattle.std.specs.Prelude.{◌≡◌, List, ℕ, ◌<◌, length, get_or}
 use Rattle.keys.specs.declared.Bound.{Bound}
-use Rattle.limits.specs.Limits.{valueMax}
+use Rattle.limits.specs.Limits.{value_max}
 use Rattle.records.specs.Table.{Value, Table, replaced, Size}
 use Rattle.memory.specs.Bytes.{part}
 use Rattle.records.specs.Memory.{Keeps}
@@ -22,7 +22,7 @@ ReplaceCases Full keys slots lens values n lo hi ks ats ls bytes m keys' slots' 
     → (r : ℕ) × Size (replaced lo hi m (λ i. get_or ks i 0) val T) r × (length slots < r))
 ReplaceCases TooLong keys slots lens values n lo hi ks ats ls bytes m keys' slots' lens' values' =
     (keys' ≡ keys) × (slots' ≡ slots) × (lens' ≡ lens) × (values' ≡ values)
-    × ((i : ℕ) × (i < m) × (valueMax < get_or ls i 0))
+    × ((i : ℕ) × (i < m) × (value_max < get_or ls i 0))
 ReplaceCases Malformed keys slots lens values n lo hi ks ats ls bytes m keys' slots' lens' values' =
     (keys' ≡ keys) × (slots' ≡ slots) × (lens' ≡ lens) × (values' ≡ values) × (Entered ks ats ls bytes m → ⊥)
 

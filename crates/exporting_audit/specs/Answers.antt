@@ -4,9 +4,9 @@ use Rattle.std.specs.Prelude.{◌≡◌, Bool, List, ℕ, ◌≤◌, ◌<◌, le
 use Rattle.hosts.specs.Memory.{Memory}
 use Rattle.numbers.specs.Words.{words, state_of}
 use Rattle.auditing.specs.Answers.{Audited}
-use Rattle.codes.specs.Codes.{unfit, auditedCode}
+use Rattle.codes.specs.Codes.{unfit, audited_code}
 
 -- the audit answered b, r tells it; or there are too few words
 pub record Auditing (m : Memory) (room numbers : List ℕ) (r : ℕ) : Type 0 where
-  pub is : words ≤ length numbers → (b : Bool) × Audited m (state_of numbers) room b × (r ≡ auditedCode b)
+  pub is : words ≤ length numbers → (b : Bool) × Audited m (state_of numbers) room b × (r ≡ audited_code b)
   pub short : length numbers < words → r ≡ unfit

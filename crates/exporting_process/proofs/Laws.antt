@@ -8,13 +8,13 @@ use lib.ListN.{length, get_or}
 use Rattle.hosts.specs.declared.State.{State}
 use Rattle.hosts.specs.declared.Done.{Done}
 use Rattle.hosts.specs.Memory.{Memory}
-use Rattle.numbers.specs.Words.{words, placeWord, state_of}
+use Rattle.numbers.specs.Words.{words, place_word, state_of}
 use Rattle.processing.specs.Answers.{AfterProcess}
-use Rattle.codes.specs.Codes.{processedCode, processedPlace}
+use Rattle.codes.specs.Codes.{processed_code, processed_place_of}
 use Rattle.exporting_process.specs.Answers.{Processing, KeptStep}
 
-pub step_kept : {d : Done} {numbers numbers' : List ℕ} {r place : ℕ} → place ≡ processedPlace d.outcome
-    → (words ≤ length numbers → (state_of numbers' ≡ d.state) × (get_or numbers' placeWord 0 ≡ place)) → r ≡ processedCode d.outcome
+pub step_kept : {d : Done} {numbers numbers' : List ℕ} {r place : ℕ} → place ≡ processed_place_of d.outcome
+    → (words ≤ length numbers → (state_of numbers' ≡ d.state) × (get_or numbers' place_word 0 ≡ place)) → r ≡ processed_code d.outcome
     → KeptStep d numbers numbers' r
 step_kept at stored code = record { told = code; stored = λ h. ((stored h).0, (stored h).1 ∙ at) }
 

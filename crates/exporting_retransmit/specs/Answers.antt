@@ -4,9 +4,9 @@ use Rattle.std.specs.Prelude.{◌≡◌, List, ℕ, ◌≤◌, ◌<◌, length}
 use Rattle.numbers.specs.Words.{words, state_of}
 use Rattle.repeating.specs.declared.Repeated.{Repeated}
 use Rattle.repeating.specs.Answers.{AfterRepeat}
-use Rattle.codes.specs.Codes.{noPlaces, repeatedCode}
+use Rattle.codes.specs.Codes.{no_places, repeated_code}
 
 -- sending again answered a, r tells it; or there are too few words and nothing has changed. The words stay as they were
 pub record Repeating (counts places numbers out : List ℕ) (r : ℕ) (out' : List ℕ) : Type 0 where
-  pub is : words ≤ length numbers → (a : Repeated) × AfterRepeat counts places (state_of numbers) out a out' × (r ≡ repeatedCode a)
-  pub short : length numbers < words → (r ≡ noPlaces) × (out' ≡ out)
+  pub is : words ≤ length numbers → (a : Repeated) × AfterRepeat counts places (state_of numbers) out a out' × (r ≡ repeated_code a)
+  pub short : length numbers < words → (r ≡ no_places) × (out' ≡ out)

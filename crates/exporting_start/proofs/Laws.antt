@@ -8,14 +8,14 @@ use lib.ListN.{length, get_or}
 use Rattle.message.specs.Message.{Address}
 use Rattle.hosts.specs.declared.State.{State}
 use Rattle.hosts.specs.Memory.{Memory}
-use Rattle.numbers.specs.Words.{words, placeWord, state_of}
+use Rattle.numbers.specs.Words.{words, place_word, state_of}
 use Rattle.starting.specs.declared.Started.{Started}
 use Rattle.starting.specs.declared.Started.TheVariants.{Now, NoHost, Unfit}
 use Rattle.starting.specs.Answers.{AfterStart}
 use Rattle.exporting_start.specs.Answers.{Kept, Starting}
 
 pub kept_now : {s : Started} {k : State} {numbers numbers' : List ℕ} → s ≡ Now k
-    → (words ≤ length numbers → (state_of numbers' ≡ k) × (get_or numbers' placeWord 0 ≡ 0)) → Kept s numbers numbers' 0
+    → (words ≤ length numbers → (state_of numbers' ≡ k) × (get_or numbers' place_word 0 ≡ 0)) → Kept s numbers numbers' 0
 kept_now {s} {k} {numbers} {numbers'} e f = subst (λ x. Kept x numbers numbers' 0) (sym e) (record { is = λ w. (refl, f w) })
 
 pub kept_none : {s : Started} {numbers : List ℕ} → s ≡ NoHost → Kept s numbers numbers 1

@@ -8,19 +8,19 @@ use lib.ListN.{length, get_or}
 use Rattle.message.specs.Message.{Address}
 use Rattle.hosts.specs.declared.State.{State}
 use Rattle.hosts.specs.Memory.{Memory}
-use Rattle.numbers.specs.Words.{words, placeWord, state_of}
+use Rattle.numbers.specs.Words.{words, place_word, state_of}
 use Rattle.rounds.specs.declared.Ended.{Ended}
 use Rattle.turning.specs.Answers.{Lent, AfterTurn}
-use Rattle.codes.specs.Codes.{unfit, turnedCode, turnedPlace}
+use Rattle.codes.specs.Codes.{unfit, turned_code, turned_place_of}
 use Rattle.codes.proofs.Laws.{turned_refused}
 use Rattle.exporting_turn.specs.Answers.{Turning, KeptTurn}
 
 -- a turn was refused, so nothing is written down
-pub turn_left : {d : Ended} {numbers : List ℕ} {r : ℕ} → r ≡ turnedCode d.outcome → r ≡ unfit → KeptTurn d numbers numbers r
+pub turn_left : {d : Ended} {numbers : List ℕ} {r : ℕ} → r ≡ turned_code d.outcome → r ≡ unfit → KeptTurn d numbers numbers r
 turn_left told e = record { told = told; stored = λ w n. absurd (n e); left = λ q. refl }
 
-pub turn_kept : {d : Ended} {numbers numbers' : List ℕ} {r place : ℕ} → r ≡ turnedCode d.outcome → (r ≡ unfit → ⊥) → place ≡ turnedPlace d.outcome d.place
-    → (words ≤ length numbers → (state_of numbers' ≡ d.state) × (get_or numbers' placeWord 0 ≡ place)) → KeptTurn d numbers numbers' r
+pub turn_kept : {d : Ended} {numbers numbers' : List ℕ} {r place : ℕ} → r ≡ turned_code d.outcome → (r ≡ unfit → ⊥) → place ≡ turned_place_of d.outcome d.place
+    → (words ≤ length numbers → (state_of numbers' ≡ d.state) × (get_or numbers' place_word 0 ≡ place)) → KeptTurn d numbers numbers' r
 turn_kept told n at stored = record { told = told; stored = λ w q. ((stored w).0, (stored w).1 ∙ at); left = λ e. absurd (n e) }
 
 pub turned : {m m' : Memory} {room room' numbers numbers' : List ℕ} {arrived : Bool} {a : Address} {s ack ack' out out' : List ℕ} {r : ℕ} {k : State}
@@ -30,7 +30,7 @@ pub turned : {m m' : Memory} {room room' numbers numbers' : List ℕ} {arrived :
 turned {m} {m'} {room} {room'} {arrived = arrived} {a} {s} {ack} {ack'} {out} {out'} {r} {d = d} w loaded after kept = record {
   is = λ h L.
       let S = kept.stored h (λ e. took L e) in (d, subst (λ x. AfterTurn m x room arrived a s ack out d m' room' ack' out') (loaded h) after, S.0, kept.told, S.1);
-  short = λ n. kept.told ∙ ap turnedCode (after.refused (n w)).0;
+  short = λ n. kept.told ∙ ap turned_code (after.refused (n w)).0;
   refused = λ e. let R = after.refused (λ L. took L e) in (R.2, R.3, kept.left e, R.4, R.5);
 }
   where

@@ -6,7 +6,7 @@ use mathlib.Core.List.{List, [], ◌∷◌, ◌++◌, append_assoc}
 use Prim.Native.Nat.{ℕ, ◌+◌, ◌≤◌, ◌<◌}
 use native.Mathlib.Omega.{arith}
 use lib.ListN.{length, length-append}
-use Rattle.limits.specs.Limits.{bytesMax}
+use Rattle.limits.specs.Limits.{bytes_max}
 use Rattle.memory.specs.Bytes.{placed, Copied}
 use Rattle.memory.proofs.Parts.{length_placed, placed_then}
 use Rattle.format.specs.Number.{width, numbers, digits}
@@ -14,7 +14,7 @@ use Rattle.format.specs.Format.{Format, Of, counted, encode, Good}
 use Rattle.format.proofs.Numbers.{length_digits}
 use Rattle.format.proofs.Clear.{length_counted}
 use Rattle.message.specs.Message.{Body, message}
-use Rattle.message.specs.Table.{bodies, fields, body, bodyValue, datagramValue, datagram, written, Valid}
+use Rattle.message.specs.Table.{bodies, fields, body, body_value, datagram_value, datagram, written, Valid}
 use Rattle.message.specs.Answers.{AfterWrite, WriteCases}
 use Rattle.message.specs.declared.Written.{Written}
 use Rattle.message.specs.declared.Written.TheVariants.{Bytes, NoRoom, Invalid}
@@ -79,7 +79,7 @@ front_is n to t l =
     ∙ append_assoc (0 ∷ digits width n) (counted to) (t ∷ l)
 
 module _ (b : Body) (n : ℕ) (to : List ℕ) (t : ℕ) (v : Of (fields t)) (d : List ℕ) (known : n < numbers) (row : t < length bodies)
-    (is : bodyValue b ≡ (t, v)) where
+    (is : body_value b ≡ (t, v)) where
   bytes : front n to t ++ encode (fields t) v ≡ written (message n to b)
   bytes =
       front_is n to t (encode (fields t) v)
@@ -89,13 +89,13 @@ module _ (b : Body) (n : ℕ) (to : List ℕ) (t : ℕ) (v : Of (fields t)) (d :
   pub message_length : length (written (message n to b)) ≡ length (front n to t) + length (encode (fields t) v)
   message_length = ap length (sym bytes) ∙ length-append (front n to t) (encode (fields t) v)
 
-  fine : length to < bytesMax → Good (fields t) v → Valid (message n to b)
+  fine : length to < bytes_max → Good (fields t) v → Valid (message n to b)
   fine short g =
-      let q : Good body (bodyValue b) = subst (λ (x : Of body). Good body x) (sym is) (row, g) in
+      let q : Good body (body_value b) = subst (λ (x : Of body). Good body x) (sym is) (row, g) in
       let s : length to < numbers = omega arith in
       (omega arith, (known, ((short, s), q)))
 
-  sound : Valid (message n to b) → (length to < bytesMax) × Good (fields t) v
+  sound : Valid (message n to b) → (length to < bytes_max) × Good (fields t) v
   sound g = (g.1.1.0.0, (subst (λ (x : Of body). Good body x) is g.1.1.1).1)
 
   pub message_written : {r : Written} {d' : List ℕ} → AfterFields (fields t) v n to t d r d' → AfterWrite (message n to b) d r d'

@@ -13,13 +13,13 @@ use Rattle.removals.specs.Answers.{AfterRemove}
 use Rattle.hosts.specs.declared.State.{State}
 use Rattle.hosts.specs.declared.Done.{Done}
 use Rattle.hosts.specs.declared.Processed.TheVariants.{Handed}
-use Rattle.hosts.specs.Answers.{moved, droppedOf}
+use Rattle.hosts.specs.Answers.{moved, dropped_of}
 use Rattle.giving.specs.Answers.{AfterGive}
 
 module _ {lows owners keys slots lows' owners' : List ℕ} {k : State} {lo hi : Bound} {i p : ℕ} {r : Changed}
     (A : AfterSet lows owners k.bounds lo hi i r lows' owners') where
   -- the map is full: that is never so
-  pub not_given : {d : Done} → r ≡ NoRoom → d ≡ droppedOf k → AfterGive lows owners keys slots k lo hi i p d lows' owners' keys slots
+  pub not_given : {d : Done} → r ≡ NoRoom → d ≡ dropped_of k → AfterGive lows owners keys slots k lo hi i p d lows' owners' keys slots
   not_given {d} e z =
       let B = subst (λ (x : Changed). AfterSet lows owners k.bounds lo hi i x lows' owners') e A in
       record {

@@ -7,7 +7,7 @@ use Prim.Native.Nat.{ℕ, zero, suc, ◌-◌, ◌≤◌, ◌<◌}
 use native.Mathlib.Omega.{arith}
 use lib.ListN.{length, get_or}
 use borrow.Author.Tests.{lt-ltb, le-ltb}
-use Rattle.limits.specs.Limits.{numbers, valueMax, bytesMax, entriesLimit}
+use Rattle.limits.specs.Limits.{numbers, value_max, bytes_max, entries_limit}
 use Rattle.keys.specs.declared.Bound.{Bound}
 use Rattle.keys.specs.Bound.{holds}
 use Rattle.memory.specs.Bytes.{part}
@@ -22,7 +22,7 @@ use Rattle.records.specs.Memory.{Keeps as KeepsTable}
 use Rattle.records.proofs.Laws.{keeps_short}
 use Rattle.delegation.specs.Map.{Keeps as KeepsMap, updated}
 use Rattle.delivery.specs.Post.{posted, last}
-use Rattle.delivery.specs.Memory.{Keeps as KeepsPost, Standing, markAt}
+use Rattle.delivery.specs.Memory.{Keeps as KeepsPost, Standing, mark_at}
 use Rattle.protocol.specs.Records.{look, kept, in_range, outside}
 use Rattle.protocol.specs.Owners.{giving}
 use Rattle.protocol.specs.State.{Host, done}
@@ -55,7 +55,7 @@ entered_range ks ats ls bytes T l e a lo hi m L = entered_made ks ats ls bytes 0
 
 -- ---- values are short, so the list may be written
 
-short_list : (l : List Entry) → ((i : ℕ) → i < length l → length (value_at l i) ≤ valueMax) → Short l
+short_list : (l : List Entry) → ((i : ℕ) → i < length l → length (value_at l i) ≤ value_max) → Short l
 short_list [] h = tt
 short_list (e ∷ l) h = (h 0 (omega arith), short_list l (λ i q. h (suc i) (omega arith)))
 
@@ -84,7 +84,7 @@ module _ (m : Memory) (k : State) (h : Host) (C : Core m k h) (lo hi : Bound) (i
 
   -- ---- the Delegate
 
-  module _ (ks ats ls bytes : List ℕ) (n : ℕ) (e : entered ks ats ls bytes 0 n ≡ in_range lo hi h.records) (few : n < entriesLimit)
+  module _ (ks ats ls bytes : List ℕ) (n : ℕ) (e : entered ks ats ls bytes 0 n ≡ in_range lo hi h.records) (few : n < entries_limit)
       (x : ℕ) (small : x < numbers) where
     short : Short (entered ks ats ls bytes 0 n)
     short = subst Short (sym e) short_range
@@ -96,7 +96,7 @@ module _ (m : Memory) (k : State) (h : Host) (C : Core m k h) (lo hi : Bound) (i
         let s = name_short m k h C i in_peers in
         let w = C.sized.address in
         let c = entered_length ks ats ls bytes 0 n in
-        let g : Good (entries bytesMax) (entered ks ats ls bytes 0 n) = (
+        let g : Good (entries bytes_max) (entered ks ats ls bytes 0 n) = (
           omega (arith, c, few),
           small_entered ks ats ls bytes keys 0 n short,
           subst (Above 0) (sym e) (above_kept (holds lo hi) 0 h.records C.says.sorted),
@@ -120,7 +120,7 @@ module _ (m : Memory) (k : State) (h : Host) (C : Core m k h) (lo hi : Bound) (i
   -- the memory with another map, another table, and other words and mail
   abbrev over : (lows owners keys slots counts places mail : List ℕ) → Memory
   over lows owners keys slots counts places mail =
-      memory lows owners keys slots m.lens m.values m.nameLens m.names counts places mail
+      memory lows owners keys slots m.lens m.values m.name_lens m.names counts places mail
 
   module _ (lows owners keys slots counts places mail : List ℕ) (bounds entries : ℕ)
       (K : KeepsMap lows owners bounds (updated lo hi i C.f))
@@ -165,9 +165,9 @@ module _ (m : Memory) (k : State) (h : Host) (C : Core m k h) (lo hi : Bound) (i
         let t : numbered h (C.N i) ≡ true = lt-ltb (next h (C.N i)) numbers (subst (λ (y : ℕ). y < numbers) n small) in
         let w : written (message x (C.N i) (delegate lo hi es)) ≡ written (message (next h (C.N i)) (C.N i) (delegate lo hi (in_range lo hi h.records))) =
         ap₂ (λ (y : ℕ) (l : List Entry). written (message y (C.N i) (delegate lo hi l))) n ee in
-        let g : markAt places p - 1 ≡ i = omega (arith, S.mark) in
-        let to : name_at m.nameLens m.names k.width (markAt places p - 1) ≡ C.N i =
-        ap (name_at m.nameLens m.names k.width) g ∙ name_is m k h C i in_peers in
+        let g : mark_at places p - 1 ≡ i = omega (arith, S.mark) in
+        let to : name_at m.name_lens m.names k.width (mark_at places p - 1) ≡ C.N i =
+        ap (name_at m.name_lens m.names k.width) g ∙ name_is m k h C i in_peers in
         let D : Does (over lows owners keys slots counts places mail) (moved k bounds entries) (Handed p) (handing true h lo hi (C.N i)) = record {
           core = core_handed (subst (λ (s : List ℕ). KeepsPost counts places mail k.size k.peers (posted i s C.P)) w Q);
           outcome = refl;

@@ -7,7 +7,7 @@ use Prim.Native.Nat.{ℕ, ◌<◌}
 use native.Mathlib.Omega.{arith}
 use lib.ListN.{length}
 use lib.Dec.{leb}
-use Rattle.limits.specs.Limits.{entriesLimit}
+use Rattle.limits.specs.Limits.{entries_limit}
 use Rattle.keys.specs.declared.Bound.{Bound}
 use Rattle.keys.specs.Bound.{below, holds}
 use Rattle.message.specs.Message.{Address}
@@ -33,7 +33,7 @@ or_left s t e = rw e refl
 module _ (m : Memory) (k : State) (h : Host) (C : Core m k h) (lo hi : Bound) (a : Address) where
   -- the rest of the test, behind that of the recipient
   abbrev range : Bool
-  range = not (below lo hi) || (not (whole lo hi h.me h.owners) || leb entriesLimit (length (in_range lo hi h.records)))
+  range = not (below lo hi) || (not (whole lo hi h.me h.owners) || leb entries_limit (length (in_range lo hi h.records)))
 
   -- no other host has the address
   pub refused_recipient : ((i : ℕ) → i < k.hosts → C.N i ≡ a → i ≡ k.me) → refused h lo hi a ≡ true
@@ -69,7 +69,7 @@ module _ (m : Memory) (k : State) (h : Host) (C : Core m k h) (lo hi : Bound) (a
 
   -- nothing of that is so: then the number of entries decides
   pub refused_many : (i : ℕ) → i < k.hosts → C.N i ≡ a → (i ≡ k.me → ⊥) → below lo hi ≡ true → ((x : ℕ) → holds lo hi x ≡ true → C.f x ≡ k.me)
-      → refused h lo hi a ≡ leb entriesLimit (length (in_range lo hi h.records))
+      → refused h lo hi a ≡ leb entries_limit (length (in_range lo hi h.records))
   refused_many i p e n b all =
       let s : same a h.me ≡ false = same_false a h.me (λ z.
       n (C.names_kept.distinct i k.me (omega (arith, C.says.few)) (omega (arith, C.says.own, C.says.few)) (e ∙ z ∙ sym C.says.me_is))) in

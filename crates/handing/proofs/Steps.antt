@@ -8,7 +8,7 @@ use native.Mathlib.Omega.{arith}
 use lib.ListN.{length, get_or}
 use lib.Dec.{leb}
 use borrow.Author.Tests.{ltb-true, le-leb, lt-leb}
-use Rattle.limits.specs.Limits.{numbers, entriesLimit, transfersLimit}
+use Rattle.limits.specs.Limits.{numbers, entries_limit, transfers_limit}
 use Rattle.keys.specs.declared.Bound.{Bound}
 use Rattle.format.specs.declared.Part.{Part}
 use Rattle.message.specs.Message.{Address, delegate}
@@ -29,7 +29,7 @@ use Rattle.sending.specs.Answers.{AfterSend}
 use Rattle.protocol.specs.Records.{in_range}
 use Rattle.protocol.specs.Owners.{giving}
 use Rattle.protocol.specs.State.{Host, Letter}
-use Rattle.protocol.specs.Process.{refused, onShard, handing}
+use Rattle.protocol.specs.Process.{refused, on_shard, handing}
 use Rattle.protocol.specs.Delivery.{numbered}
 use Rattle.hosts.specs.declared.State.{State}
 use Rattle.hosts.specs.declared.Done.{Done}
@@ -37,7 +37,7 @@ use Rattle.hosts.specs.declared.Processed.TheVariants.{Dropped, Unnumbered}
 use Rattle.hosts.specs.Memory.{memory}
 use Rattle.hosts.specs.Limits.{Bounded}
 use Rattle.hosts.specs.Keeps.{Core}
-use Rattle.hosts.specs.Answers.{emptied, moved, droppedOf, Does}
+use Rattle.hosts.specs.Answers.{emptied, moved, dropped_of, Does}
 use Rattle.hosts.proofs.Totals.{all_taken}
 use Rattle.hosts.proofs.Maps.{index_giving}
 use Rattle.hosts.proofs.Tables.{size_within}
@@ -52,20 +52,20 @@ use Rattle.handing.proofs.Handed.{entered_range, delegate_valid, delegate_short,
 -- ---- the range handed over
 
 -- the count of transfers can be raised
-can_raise : (k : State) (x : ℕ) → k.transfers ≡ x → x < transfersLimit - 2 → suc k.transfers < numbers
+can_raise : (k : State) (x : ℕ) → k.transfers ≡ x → x < transfers_limit - 2 → suc k.transfers < numbers
 can_raise k x e q = omega (arith, e, q)
 
-module _ {lows owners keys slots values nameLens names counts places mail : List ℕ} {k : State} {lo hi : Bound} {i : ℕ} {ks ats ls : List ℕ} {m : ℕ}
+module _ {lows owners keys slots values name_lens names counts places mail : List ℕ} {k : State} {lo hi : Bound} {i : ℕ} {ks ats ls : List ℕ} {m : ℕ}
     {r : Picked} (A : AfterPick counts places i r) where
   -- no place is free: that is never so
-  pub no_place : {d : Done} → r ≡ NoPlace → d ≡ droppedOf k
-      → AfterHand lows owners keys slots values nameLens names counts places mail k lo hi i ks ats ls m d lows owners keys slots counts places mail
+  pub no_place : {d : Done} → r ≡ NoPlace → d ≡ dropped_of k
+      → AfterHand lows owners keys slots values name_lens names counts places mail k lo hi i ks ats ls m d lows owners keys slots counts places mail
   no_place {d} e z =
       let B = subst (AfterPick counts places i) e A in
       record { freed = ap (λ (x : Done). x.state.len) z; is = λ lens h C R. absurd (all_taken _ k h C B.is.0 R.place) }
 
   pub no_number : {t : State} → r ≡ NoNumber → t.len ≡ 0 → (suc k.transfers < numbers → t ≡ moved k k.bounds k.entries)
-      → AfterHand lows owners keys slots values nameLens names counts places mail k lo hi i ks ats ls m (record { state = t; outcome = Unnumbered })
+      → AfterHand lows owners keys slots values name_lens names counts places mail k lo hi i ks ats ls m (record { state = t; outcome = Unnumbered })
       lows owners keys slots counts places mail
   no_number {t} e z M =
       let B = subst (AfterPick counts places i) e A in
@@ -73,17 +73,17 @@ module _ {lows owners keys slots values nameLens names counts places mail : List
         freed = z;
         is = λ lens h C R.
             let q = B.is mail k.size k.peers C.P C.post_kept (omega (arith, R.host, C.says.few)) in
-            subst (λ (x : State). Does (memory lows owners keys slots lens values nameLens names counts places mail) x Unnumbered (handing (numbered h (C.N i)) h lo hi (C.N i)))
+            subst (λ (x : State). Does (memory lows owners keys slots lens values name_lens names counts places mail) x Unnumbered (handing (numbered h (C.N i)) h lo hi (C.N i)))
             (sym (M (can_raise k h.transfers C.transfers_is R.few)))
             (unhanded _ k h C lo hi i R.host q);
       }
 
   module _ {p x : ℕ} (e : r ≡ Place p x) (small : x < numbers) (known : (j : ℕ) → get_or ks j 0 < numbers) {t : Bool} {counts' places' mail' : List ℕ}
-      (S : AfterSend nameLens names k.width counts places mail k.size i p x (λ n. Columns ks ats ls values m)
+      (S : AfterSend name_lens names k.width counts places mail k.size i p x (λ n. Columns ks ats ls values m)
       (λ N. delegate lo hi (entered ks ats ls values 0 m)) t counts' places' mail') where
     -- the Delegate is not written: that is never so
-    pub not_sent : {d : Done} → t ≡ false → d ≡ droppedOf k
-        → AfterHand lows owners keys slots values nameLens names counts places mail k lo hi i ks ats ls m d lows owners keys slots counts' places' mail'
+    pub not_sent : {d : Done} → t ≡ false → d ≡ dropped_of k
+        → AfterHand lows owners keys slots values name_lens names counts places mail k lo hi i ks ats ls m d lows owners keys slots counts' places' mail'
     not_sent {d} u z =
         let B = subst (AfterPick counts places i) e A in
         record {
@@ -104,7 +104,7 @@ module _ {lows owners keys slots values nameLens names counts places mail : List
         }
 
     pub sent : {d : Done} {lows' owners' keys' slots' : List ℕ} → t ≡ true → AfterGive lows owners keys slots k lo hi i p d lows' owners' keys' slots'
-        → AfterHand lows owners keys slots values nameLens names counts places mail k lo hi i ks ats ls m d lows' owners' keys' slots' counts' places' mail'
+        → AfterHand lows owners keys slots values name_lens names counts places mail k lo hi i ks ats ls m d lows' owners' keys' slots' counts' places' mail'
     sent {d} {lows'} {owners'} {keys'} {slots'} u G =
         let B = subst (AfterPick counts places i) e A in
         record {
@@ -126,7 +126,7 @@ module _ {lows owners keys slots values nameLens names counts places mail : List
               let v = R.bounds.1 in
               omega (arith, takes_unique y (v.0, v.1, keeps_cong (λ x. sym (index_giving _ k h C lo hi i R.host x)) v.2), R.bounds.2)) in
               subst
-              (λ (x : Done). Does (memory lows' owners' keys' slots' lens values nameLens names counts' places' mail') x.state x.outcome (handing (numbered h (C.N i)) h lo hi (C.N i)))
+              (λ (x : Done). Does (memory lows' owners' keys' slots' lens values name_lens names counts' places' mail') x.state x.outcome (handing (numbered h (C.N i)) h lo hi (C.N i)))
               (sym g.answer)
               (handed _ k h C lo hi i R.host lows' owners' keys' slots' counts' places' mail' g.bounds g.entries g.map_kept g.table_kept x n small
               (entered ks ats ls values 0 m)
@@ -138,40 +138,40 @@ module _ {lows owners keys slots values nameLens names counts places mail : List
 
 -- ---- the range's entries picked out
 
-module _ {lows owners keys slots lens values nameLens names counts places mail : List ℕ} {k : State} {lo hi : Bound} {i : ℕ}
+module _ {lows owners keys slots lens values name_lens names counts places mail : List ℕ} {k : State} {lo hi : Bound} {i : ℕ}
     {ks ats ls ks' ats' ls' : List ℕ} {r : Range} (A : AfterRange keys slots lens values k.entries lo hi ks ats ls r ks' ats' ls') where
   -- they are too many
-  pub too_many : {d : Done} → r ≡ TooMany → entriesLimit ≤ suc (min (length ks) (min (length ats) (length ls))) → d ≡ droppedOf k
-      → AfterOffer lows owners keys slots lens values nameLens names counts places mail k lo hi i d lows owners keys slots counts places mail
+  pub too_many : {d : Done} → r ≡ TooMany → entries_limit ≤ suc (min (length ks) (min (length ats) (length ls))) → d ≡ dropped_of k
+      → AfterOffer lows owners keys slots lens values name_lens names counts places mail k lo hi i d lows owners keys slots counts places mail
   too_many {d} e q z =
       let B = subst (λ (x : Range). AfterRange keys slots lens values k.entries lo hi ks ats ls x ks' ats' ls') e A in
-      let M = memory lows owners keys slots lens values nameLens names counts places mail in
+      let M = memory lows owners keys slots lens values name_lens names counts places mail in
       record {
         freed = ap (λ (x : Done). x.state.len) z;
         is = λ h C O.
             let w = B.is.3 C.T C.table_kept in
             let n = size_within C.T h.records C.says.record_is C.says.sorted lo hi w.0 w.1 in
-            let y : leb entriesLimit (length (in_range lo hi h.records)) ≡ true = le-leb entriesLimit (length (in_range lo hi h.records)) (omega (arith, q, w.2, n)) in
-            subst (λ (x : Done). Does M x.state x.outcome (onShard (leb entriesLimit (length (in_range lo hi h.records))) h lo hi (C.N i))) (sym z)
-            (subst (λ (x : Bool). Does M (emptied k) Dropped (onShard x h lo hi (C.N i))) (sym y) (does_dropped M k h C Dropped refl));
+            let y : leb entries_limit (length (in_range lo hi h.records)) ≡ true = le-leb entries_limit (length (in_range lo hi h.records)) (omega (arith, q, w.2, n)) in
+            subst (λ (x : Done). Does M x.state x.outcome (on_shard (leb entries_limit (length (in_range lo hi h.records))) h lo hi (C.N i))) (sym z)
+            (subst (λ (x : Bool). Does M (emptied k) Dropped (on_shard x h lo hi (C.N i))) (sym y) (does_dropped M k h C Dropped refl));
       }
 
   pub offered : {m : ℕ} {d : Done} {lows' owners' keys' slots' counts' places' mail' : List ℕ}
-      → r ≡ Count m → suc (min (length ks) (min (length ats) (length ls))) ≤ entriesLimit
+      → r ≡ Count m → suc (min (length ks) (min (length ats) (length ls))) ≤ entries_limit
       → length ks' ≡ length ks → length ats' ≡ length ats → length ls' ≡ length ls
-      → AfterHand lows owners keys slots values nameLens names counts places mail k lo hi i ks' ats' ls' m d lows' owners' keys' slots' counts' places' mail'
-      → AfterOffer lows owners keys slots lens values nameLens names counts places mail k lo hi i d lows' owners' keys' slots' counts' places' mail'
+      → AfterHand lows owners keys slots values name_lens names counts places mail k lo hi i ks' ats' ls' m d lows' owners' keys' slots' counts' places' mail'
+      → AfterOffer lows owners keys slots lens values name_lens names counts places mail k lo hi i d lows' owners' keys' slots' counts' places' mail'
   offered {m} {d} {lows'} {owners'} {keys'} {slots'} {counts'} {places'} {mail'} e q l₀ l₁ l₂ H =
       let B = subst (λ (x : Range). AfterRange keys slots lens values k.entries lo hi ks ats ls x ks' ats' ls') e A in
-      let M = memory lows' owners' keys' slots' lens values nameLens names counts' places' mail' in
+      let M = memory lows' owners' keys' slots' lens values name_lens names counts' places' mail' in
       record {
         freed = H.freed;
         is = λ h C O.
             let es = entered_range ks' ats' ls' values C.T h.records C.says.record_is C.says.sorted lo hi m (B.is.2 C.T C.table_kept) in
-            let few : m < entriesLimit = omega (arith, B.is.0, q) in
-            let y : leb entriesLimit (length (in_range lo hi h.records)) ≡ false =
-            lt-leb entriesLimit (length (in_range lo hi h.records)) (omega (arith, ap length es, entered_length ks' ats' ls' values 0 m, few)) in
-            subst (λ (x : Bool). Does M d.state d.outcome (onShard x h lo hi (C.N i))) (sym y)
+            let few : m < entries_limit = omega (arith, B.is.0, q) in
+            let y : leb entries_limit (length (in_range lo hi h.records)) ≡ false =
+            lt-leb entries_limit (length (in_range lo hi h.records)) (omega (arith, ap length es, entered_length ks' ats' ls' values 0 m, few)) in
+            subst (λ (x : Bool). Does M d.state d.outcome (on_shard x h lo hi (C.N i))) (sym y)
             (H.is lens h C
             (record {
               few = O.few;
@@ -191,43 +191,43 @@ module _ {lows owners keys slots lens values nameLens names counts places mail :
 
 -- ---- the row
 
-module _ {lows owners keys slots lens values nameLens names counts places mail : List ℕ} {k : State} {s : List ℕ} {lo hi : Bound} {to : Part} where
+module _ {lows owners keys slots lens values name_lens names counts places mail : List ℕ} {k : State} {s : List ℕ} {lo hi : Bound} {to : Part} where
   -- a Shard that is refused is dropped
-  drop : {d : Done} → d ≡ droppedOf k
-      → ((h : Host) → Core (memory lows owners keys slots lens values nameLens names counts places mail) k h → (l : Letter)
+  drop : {d : Done} → d ≡ dropped_of k
+      → ((h : Host) → Core (memory lows owners keys slots lens values name_lens names counts places mail) k h → (l : Letter)
       → Handable lows owners places s lo hi to h l → refused h lo hi (bytes_of s to) ≡ true)
-      → AfterShard lows owners keys slots lens values nameLens names counts places mail k s lo hi to d lows owners keys slots counts places mail
+      → AfterShard lows owners keys slots lens values name_lens names counts places mail k s lo hi to d lows owners keys slots counts places mail
   drop {d} z why =
-      let M = memory lows owners keys slots lens values nameLens names counts places mail in
+      let M = memory lows owners keys slots lens values name_lens names counts places mail in
       record {
         is = record {
           freed = ap (λ (x : Done). x.state.len) z;
           is = λ h l C H n.
-              subst (λ (x : Done). Does M x.state x.outcome (onShard (refused h lo hi (bytes_of s to)) h lo hi (bytes_of s to))) (sym z)
-              (subst (λ (x : Bool). Does M (emptied k) Dropped (onShard x h lo hi (bytes_of s to))) (sym (why h C l n)) (does_dropped M k h C Dropped refl));
+              subst (λ (x : Done). Does M x.state x.outcome (on_shard (refused h lo hi (bytes_of s to)) h lo hi (bytes_of s to))) (sym z)
+              (subst (λ (x : Bool). Does M (emptied k) Dropped (on_shard x h lo hi (bytes_of s to))) (sym (why h C l n)) (does_dropped M k h C Dropped refl));
         };
       }
 
-  module _ {r : Peer} (A : AfterRecipient nameLens names k s to r) where
-    pub shard_nobody : {d : Done} → r ≡ Unknown → d ≡ droppedOf k
-        → AfterShard lows owners keys slots lens values nameLens names counts places mail k s lo hi to d lows owners keys slots counts places mail
+  module _ {r : Peer} (A : AfterRecipient name_lens names k s to r) where
+    pub shard_nobody : {d : Done} → r ≡ Unknown → d ≡ dropped_of k
+        → AfterShard lows owners keys slots lens values name_lens names counts places mail k s lo hi to d lows owners keys slots counts places mail
     shard_nobody e z =
-        let B = subst (AfterRecipient nameLens names k s to) e A in
+        let B = subst (AfterRecipient name_lens names k s to) e A in
         drop z (λ h C l n. refused_recipient _ k h C lo hi (bytes_of s to) (B.is k.peers C.N C.names_kept C.says.few n.inside))
 
   module _ {t : Bool} (A : Mine lows owners k lo hi t) where
-    pub shard_other : {d : Done} → t ≡ false → d ≡ droppedOf k
-        → AfterShard lows owners keys slots lens values nameLens names counts places mail k s lo hi to d lows owners keys slots counts places mail
+    pub shard_other : {d : Done} → t ≡ false → d ≡ dropped_of k
+        → AfterShard lows owners keys slots lens values name_lens names counts places mail k s lo hi to d lows owners keys slots counts places mail
     shard_other e z = drop z (λ h C l n. refused_range _ k h C lo hi (bytes_of s to) (λ b. A.no e b C.f C.map_kept))
 
   -- the range is the host's own, and goes to another if its entries are few enough
   pub shard_offered : {p : Peer} {i : ℕ} {t : Bool} {d : Done} {lows' owners' keys' slots' counts' places' mail' : List ℕ}
-      → AfterRecipient nameLens names k s to p → p ≡ Is i → Mine lows owners k lo hi t → t ≡ true
-      → AfterOffer lows owners keys slots lens values nameLens names counts places mail k lo hi i d lows' owners' keys' slots' counts' places' mail'
-      → AfterShard lows owners keys slots lens values nameLens names counts places mail k s lo hi to d lows' owners' keys' slots' counts' places' mail'
+      → AfterRecipient name_lens names k s to p → p ≡ Is i → Mine lows owners k lo hi t → t ≡ true
+      → AfterOffer lows owners keys slots lens values name_lens names counts places mail k lo hi i d lows' owners' keys' slots' counts' places' mail'
+      → AfterShard lows owners keys slots lens values name_lens names counts places mail k s lo hi to d lows' owners' keys' slots' counts' places' mail'
   shard_offered {p} {i} {t} {d} {lows'} {owners'} {keys'} {slots'} {counts'} {places'} {mail'} A e Q f O =
-      let B = subst (AfterRecipient nameLens names k s to) e A in
-      let M = memory lows' owners' keys' slots' lens values nameLens names counts' places' mail' in
+      let B = subst (AfterRecipient name_lens names k s to) e A in
+      let M = memory lows' owners' keys' slots' lens values name_lens names counts' places' mail' in
       record {
         is = record {
           freed = O.freed;
@@ -235,8 +235,8 @@ module _ {lows owners keys slots lens values nameLens names counts places mail :
               let w = B.is k.peers C.N C.names_kept C.says.few in
               let y = Q.yes f in
               let z = refused_many _ k h C lo hi (bytes_of s to) i w.0 w.1 w.2 y.0 (λ x v. y.3 C.f C.map_kept x v) in
-              subst (λ (x : Bool). Does M d.state d.outcome (onShard x h lo hi (bytes_of s to))) (sym z)
-              (subst (λ (x : Address). Does M d.state d.outcome (onShard (leb entriesLimit (length (in_range lo hi h.records))) h lo hi x)) w.1
+              subst (λ (x : Bool). Does M d.state d.outcome (on_shard x h lo hi (bytes_of s to))) (sym z)
+              (subst (λ (x : Address). Does M d.state d.outcome (on_shard (leb entries_limit (length (in_range lo hi h.records))) h lo hi x)) w.1
               (O.is h C
               (record {
                 few = ltb-true _ _ n.few;

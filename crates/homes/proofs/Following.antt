@@ -21,32 +21,32 @@ use Rattle.protocol.specs.Retransmit.{retransmit}
 use Rattle.protocol.specs.Turn.{turn}
 use Rattle.hosts.specs.declared.State.{State}
 use Rattle.hosts.specs.Memory.{Memory, memory}
-use Rattle.hosts.specs.Limits.{fitsRoom}
-use Rattle.hosts.specs.Answers.{sendsOf as processedSends}
+use Rattle.hosts.specs.Limits.{fits_room}
+use Rattle.hosts.specs.Answers.{sends_of as processedSends}
 use Rattle.hosts.specs.Keeps.{Keeps}
 use Rattle.incoming.specs.declared.Received.{Received}
 use Rattle.incoming.specs.declared.Received.TheVariants.{Unfit}
-use Rattle.incoming.specs.Answers.{ackLength, sendsOf as receivedSends, keepsAll}
+use Rattle.incoming.specs.Answers.{ack_length, sends_of as receivedSends, keeps_all}
 use Rattle.receiving.specs.Answers.{AfterReceive}
 use Rattle.repeating.specs.declared.Repeated.{Repeated}
 use Rattle.repeating.specs.declared.Repeated.TheVariants.{Places, NoRoom}
 use Rattle.repeating.specs.Answers.{AfterRepeat, packets}
 use Rattle.rounds.specs.declared.Turned.{Turned}
 use Rattle.rounds.specs.declared.Turned.TheVariants.{Unfit as TooShort}
-use Rattle.rounds.specs.Answers.{sendsOf as turnedSends}
+use Rattle.rounds.specs.Answers.{sends_of as turnedSends}
 use Rattle.arriving.specs.Answers.{arriving}
 use Rattle.turning.specs.Answers.{Lent, AfterTurn}
 use Rattle.world.specs.World.{Sent, World}
-use Rattle.world.specs.Events.{Source, Move, receiving, processing, retransmitting, turning, Event, arrival, optional, sentBy, onArrival, step_of, after, step, run}
+use Rattle.world.specs.Events.{Source, Move, receiving, processing, retransmitting, turning, Event, arrival, optional, sent_by, on_arrival, step_of, after, step, run}
 use Rattle.world.proofs.Changes.{at_cases, at_same_state}
-use Rattle.homes.specs.Homes.{Home, Homes, Receives, Processes, Repeats, repeatedSends, Arrived, Turns, Call, ReceivesMaybe, Calls, Does}
+use Rattle.homes.specs.Homes.{Home, Homes, Receives, Processes, Repeats, repeated_sends, Arrived, Turns, Call, ReceivesMaybe, Calls, Does}
 use Rattle.homes.specs.Homes.{receive as receives, process as processes, retransmit as retransmits, turn as turns}
 use Rattle.homes.specs.Theorem.{Kept, Follows}
 
 -- ---- one event
 
 module _ {hosts : List Address} {R R' : Homes} {W : World} (F : Follows hosts R W) (x : Address) (isHost : among x hosts ≡ true) (g : Home)
-    (sends : List Packet) (n : ℕ) (homes_are : R'.home ≡ at x g R.home) (sent_is : R'.sent ≡ R.sent ++ sentBy x (take n sends)) where
+    (sends : List Packet) (n : ℕ) (homes_are : R'.home ≡ at x g R.home) (sent_is : R'.sent ≡ R.sent ++ sent_by x (take n sends)) where
   -- the world's host takes the step s, which the home has taken
   follows_after : (s : Step) → Kept g s.state → sends ≡ s.sends → Follows hosts R' (after W x n s)
   follows_after s K e = record {
@@ -54,7 +54,7 @@ module _ {hosts : List Address} {R R' : Homes} {W : World} (F : Follows hosts R 
     keeps = λ y h.
         subst (λ (f : Address → Home). Kept (f y) (at x s.state W.state y)) (sym homes_are)
         (both (same y x) (λ q. K) (F.keeps y h));
-    sent_is = sent_is ∙ ap₂ (λ (l m : List Sent). l ++ m) F.sent_is (ap (λ (p : List Packet). sentBy x (take n p)) e);
+    sent_is = sent_is ∙ ap₂ (λ (l m : List Sent). l ++ m) F.sent_is (ap (λ (p : List Packet). sent_by x (take n p)) e);
   }
     where
       both : {y : Address} (t : Bool) → (t ≡ true → Kept g s.state) → Kept (R.home y) (W.state y) → Kept (cond t g (R.home y)) (cond t s.state (W.state y))
@@ -73,10 +73,10 @@ module _ {hosts : List Address} {R R' : Homes} {W : World} (F : Follows hosts R 
   follows_none e q = record {
     hosts_are = F.hosts_are;
     keeps = λ y h. subst (λ (f : Address → Home). Kept (f y) (W.state y)) (sym (homes_are ∙ ap (λ (z : Home). at x z R.home) e ∙ at_same_state x R.home)) (F.keeps y h);
-    sent_is = sent_is ∙ ap (λ (p : List Packet). R.sent ++ sentBy x (take n p)) q ∙ ap (λ (l : List Sent). R.sent ++ l) (none_sent n) ∙ append-nil R.sent ∙ F.sent_is;
+    sent_is = sent_is ∙ ap (λ (p : List Packet). R.sent ++ sent_by x (take n p)) q ∙ ap (λ (l : List Sent). R.sent ++ l) (none_sent n) ∙ append-nil R.sent ∙ F.sent_is;
   }
     where
-      none_sent : (k : ℕ) → sentBy x (take k []) ≡ []
+      none_sent : (k : ℕ) → sent_by x (take k []) ≡ []
       none_sent zero = refl
       none_sent (suc k) = refl
 
@@ -102,18 +102,18 @@ module _ {hosts : List Address} {R R' : Homes} {W : World} (F : Follows hosts R 
   numbers_as {m} {k} {k'} {room} {h} e K = subst (λ (z : State). Keeps m z room h) (sym e) K
 
   follows_receive : (p : Source) (a : Address) (s : List ℕ) → arrival hosts R.sent x p ≡ some (a, s) → Receives (R.home x) a s g sends → Ends
-  follows_receive p a s e C = ⊎_elim short long (lt_or_ge (length C.ack) ackLength)
+  follows_receive p a s e C = ⊎_elim short long (lt_or_ge (length C.ack) ack_length)
     where
-      short : length C.ack < ackLength → Ends
+      short : length C.ack < ack_length → Ends
       short u =
           let unfit : C.answer.outcome ≡ Unfit = C.after.unfit u in
-          let same = C.after.same (ap keepsAll unfit) in
+          let same = C.after.same (ap keeps_all unfit) in
           ([], follows_none (same_home (R.home x) g same.0 (C.numbers_are ∙ same.1) same.2) (C.sends_are ∙ ap (receivedSends a C.ack') unfit))
 
-      long : ackLength ≤ length C.ack → Ends
+      long : ack_length ≤ length C.ack → Ends
       long u =
           let A = C.after.is (W.state x) (F.keeps x isHost) u in
-          one (receiving p A.0) (receive A.0 (W.state x) a s) (ap (onArrival A.0 (W.state x)) (arrives p ∙ e))
+          one (receiving p A.0) (receive A.0 (W.state x) a s) (ap (on_arrival A.0 (W.state x)) (arrives p ∙ e))
           (numbers_as C.numbers_are A.2.keeps) (C.sends_are ∙ A.2.sends)
 
   follows_arrival : (p : Source) (r : Option (Address × List ℕ)) → arrival hosts R.sent x p ≡ r → ReceivesMaybe (R.home x) r g sends → Ends
@@ -123,7 +123,7 @@ module _ {hosts : List Address} {R R' : Homes} {W : World} (F : Follows hosts R 
   follows_process : Processes (R.home x) g sends → Ends
   follows_process C =
       let A = C.after.is (W.state x) (F.keeps x isHost) in
-      let f = fitsRoom (length (R.home x).memory.slots) (W.state x) (W.state x).room in
+      let f = fits_room (length (R.home x).memory.slots) (W.state x) (W.state x).room in
       one (processing f) (process f (W.state x)) refl
       (numbers_as C.numbers_are (subst (λ (z : List ℕ). Keeps g.memory C.answer.state z (process f (W.state x)).state) (sym C.room_is) A.keeps))
       (C.sends_are ∙ ap (λ (k : State). processedSends g.memory k C.answer.outcome) C.numbers_are ∙ A.sends)
@@ -134,9 +134,9 @@ module _ {hosts : List Address} {R R' : Homes} {W : World} (F : Follows hosts R 
       subst (λ (z : Repeated). AfterRepeat (R.home x).memory.counts (R.home x).memory.places (R.home x).numbers C.out z C.out') e C.after in
       let M = (R.home x).memory in
       one retransmitting (retransmit (W.state x)) refl (subst (λ (z : Home). Kept z (W.state x)) (sym C.home_is) (F.keeps x isHost))
-      (C.sends_are ∙ ap (λ (z : Repeated). repeatedSends (R.home x) z C.out') e
-      ∙ A.is.1 M.lows M.owners M.keys M.slots M.lens M.values M.nameLens M.names M.mail (W.state x) (F.keeps x isHost).core)
-  follows_repeat NoRoom C e = ([], follows_none C.home_is (C.sends_are ∙ ap (λ (z : Repeated). repeatedSends (R.home x) z C.out') e))
+      (C.sends_are ∙ ap (λ (z : Repeated). repeated_sends (R.home x) z C.out') e
+      ∙ A.is.1 M.lows M.owners M.keys M.slots M.lens M.values M.name_lens M.names M.mail (W.state x) (F.keeps x isHost).core)
+  follows_repeat NoRoom C e = ([], follows_none C.home_is (C.sends_are ∙ ap (λ (z : Repeated). repeated_sends (R.home x) z C.out') e))
 
   -- the turn's datagram is the one that arrives
   as_arrived : (p : Option (Address × List ℕ)) (arrived : Bool) (a : Address) (s : List ℕ) → Arrived p arrived a s → arriving arrived a s ≡ p
@@ -150,7 +150,7 @@ module _ {hosts : List Address} {R R' : Homes} {W : World} (F : Follows hosts R 
       (λ u.
       ⊎_elim (λ v. refused (λ l. let w = l.out_fits in omega (arith, v, w))) (λ v. taken (record { ack_fits = u; out_fits = v }))
       (lt_or_ge (length C.out) (capacity (R.home x).memory.places)))
-      (lt_or_ge (length C.ack) ackLength)
+      (lt_or_ge (length C.ack) ack_length)
     where
       refused : (Lent (R.home x).memory C.ack C.out → ⊥) → Ends
       refused n =
@@ -163,7 +163,7 @@ module _ {hosts : List Address} {R R' : Homes} {W : World} (F : Follows hosts R 
       taken : Lent (R.home x).memory C.ack C.out → Ends
       taken L =
           let A = C.after.is (W.state x) (F.keeps x isHost) L in
-          let f = fitsRoom (length (R.home x).memory.slots) (W.state x) (W.state x).room in
+          let f = fits_room (length (R.home x).memory.slots) (W.state x) (W.state x).room in
           one (turning p A.0 f) (turn A.0 f (W.state x) (arriving C.arrived C.from C.datagram))
           (ap (turn A.0 f (W.state x)) (arrives_maybe p ∙ sym (as_arrived (optional hosts R.sent x p) C.arrived C.from C.datagram C.arrived_is)))
           (numbers_as C.numbers_are A.2.keeps)

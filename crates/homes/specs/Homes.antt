@@ -9,20 +9,20 @@ use Rattle.protocol.specs.Delivery.{Packet}
 use Rattle.hosts.specs.declared.State.{State}
 use Rattle.hosts.specs.declared.Done.{Done}
 use Rattle.hosts.specs.Memory.{Memory}
-use Rattle.hosts.specs.Answers.{sendsOf as processedSends}
+use Rattle.hosts.specs.Answers.{sends_of as processedSends}
 use Rattle.incoming.specs.declared.Arrival.{Arrival}
-use Rattle.incoming.specs.Answers.{sendsOf as receivedSends}
+use Rattle.incoming.specs.Answers.{sends_of as receivedSends}
 use Rattle.receiving.specs.Answers.{AfterReceive}
 use Rattle.processing.specs.Answers.{AfterProcess}
 use Rattle.repeating.specs.declared.Repeated.{Repeated}
 use Rattle.repeating.specs.declared.Repeated.TheVariants.{Places, NoRoom}
 use Rattle.repeating.specs.Answers.{AfterRepeat, packets}
 use Rattle.rounds.specs.declared.Ended.{Ended}
-use Rattle.rounds.specs.Answers.{sendsOf as turnedSends}
+use Rattle.rounds.specs.Answers.{sends_of as turnedSends}
 use Rattle.arriving.specs.Answers.{arriving}
 use Rattle.turning.specs.Answers.{AfterTurn}
 use Rattle.world.specs.World.{Sent}
-use Rattle.world.specs.Events.{Source, arrival, optional, sentBy}
+use Rattle.world.specs.Events.{Source, arrival, optional, sent_by}
 
 -- where a host lives: its memory, its numbers, and its room
 pub record Home : Type 0 where
@@ -53,9 +53,9 @@ pub record Processes (h h' : Home) (sends : List Packet) : Type 0 where
   pub sends_are : sends ≡ processedSends h'.memory h'.numbers answer.outcome
 
 -- the datagrams in the places that were written down, if they were
-abbrev pub repeatedSends : Home → Repeated → List ℕ → List Packet
-repeatedSends h (Places n) out = packets h.memory h.numbers n out
-repeatedSends h NoRoom out = []
+abbrev pub repeated_sends : Home → Repeated → List ℕ → List Packet
+repeated_sends h (Places n) out = packets h.memory h.numbers n out
+repeated_sends h NoRoom out = []
 
 pub record Repeats (h h' : Home) (sends : List Packet) : Type 0 where
   pub out : List ℕ
@@ -63,7 +63,7 @@ pub record Repeats (h h' : Home) (sends : List Packet) : Type 0 where
   pub answer : Repeated
   pub after : AfterRepeat h.memory.counts h.memory.places h.numbers out answer out'
   pub home_is : h' ≡ h
-  pub sends_are : sends ≡ repeatedSends h answer out'
+  pub sends_are : sends ≡ repeated_sends h answer out'
 
 -- a datagram has arrived at the turn, or none has
 abbrev pub Arrived : Option (Address × List ℕ) → (arrived : Bool) → Address → List ℕ → Type 0
@@ -113,7 +113,7 @@ pub record Calls (hosts : List Address) (R R' : Homes) : Type 0 where
   pub does : Does hosts R.sent host call (R.home host) after sends
   pub out : ℕ
   pub homes_are : R'.home ≡ at host after R.home
-  pub sent_is : R'.sent ≡ R.sent ++ sentBy host (take out sends)
+  pub sent_is : R'.sent ≡ R.sent ++ sent_by host (take out sends)
 
 -- n calls, one after the other
 abbrev pub Path : (hosts : List Address) → ℕ → Homes → Homes → Type 0

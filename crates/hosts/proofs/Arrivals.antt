@@ -18,7 +18,7 @@ use Rattle.delivery.specs.Memory.{Keeps as KeepsPost}
 use Rattle.delivery.specs.declared.Counts.{Counts}
 use Rattle.delivery.specs.Answers.{Counted}
 use Rattle.delivery.proofs.Laws.{at_other as peer-other, at_all}
-use Rattle.protocol.specs.Address.{among, withAddress, at as atAddress}
+use Rattle.protocol.specs.Address.{among, with_address, at as atAddress}
 use Rattle.protocol.specs.State.{Host, took as heard}
 use Rattle.protocol.specs.Delivery.{confirmed as acknowledged}
 use Rattle.hosts.specs.declared.State.{State}
@@ -31,7 +31,7 @@ use Rattle.hosts.proofs.Core.{mailed}
 
 -- the host after a message with the number x arrived from the address a
 abbrev pub hearing : Address → ℕ → Body → Host → Host
-hearing a x b h = heard a x b (withAddress a h.peers) (atAddress a x h.received) h
+hearing a x b h = heard a x b (with_address a h.peers) (atAddress a x h.received) h
 
 -- the datagrams that are left are those of the messages that are left, however many are dropped
 datagrams_left : (k x : ℕ) (a : Address) (l : List Body) → drop k (datagrams x a l) ≡ datagrams (x + k) a (drop k l)
@@ -110,7 +110,7 @@ module _ (N : ℕ → Address) (n hosts me : ℕ) (f : ℕ → ℕ) (T : Table) 
 
     -- ---- a message from a peer
 
-    listed : firsts N n ≡ withAddress (N i) h.peers
+    listed : firsts N n ≡ with_address (N i) h.peers
     listed = S.peers_are ∙ rw (among_peer N n h S.peers_are i p) refl
 
     pub says_took : (x : ℕ) (b : Body) → Says N n hosts me f T (took i x P) (hearing (N i) x b h)
@@ -148,7 +148,7 @@ module _ (N : ℕ → Address) (n hosts me : ℕ) (f : ℕ → ℕ) (T : Table) 
     another : (b : Address) → Strange (named n a N) (suc n) b → b ≡ a → ⊥
     another b s e = s n (omega arith) (new ∙ sym e)
 
-    joined_list : firsts (named n a N) (suc n) ≡ withAddress a h.peers
+    joined_list : firsts (named n a N) (suc n) ≡ with_address a h.peers
     joined_list =
         ap₂ (λ (l : List Address) (b : Address). l ++ (b ∷ [])) (firsts_same N (named n a N) n old ∙ S.peers_are) new
         ∙ rw (among_none N n h S.peers_are a strange) refl
@@ -188,9 +188,9 @@ module _ (N : ℕ → Address) (n hosts me : ℕ) (f : ℕ → ℕ) (T : Table) 
 -- ---- the memory that keeps it
 
 -- the memory with other names and other words of peers
-abbrev pub addressed : Memory → (nameLens names counts : List ℕ) → Memory
-addressed m nameLens names counts =
-    memory m.lows m.owners m.keys m.slots m.lens m.values nameLens names counts m.places m.mail
+abbrev pub addressed : Memory → (name_lens names counts : List ℕ) → Memory
+addressed m name_lens names counts =
+    memory m.lows m.owners m.keys m.slots m.lens m.values name_lens names counts m.places m.mail
 
 -- the numbers of a host with so many peers and a datagram in the room
 abbrev pub holding : State → (peers len from : ℕ) → State
@@ -249,11 +249,11 @@ module _ (m : Memory) (k : State) (h : Host) (C : Core m k h) where
           turns_is = C.turns_is;
         })
 
-    pub core_took : (x : ℕ) (nameLens names counts : List ℕ) → KeepsNames nameLens names k.width k.peers C.N
+    pub core_took : (x : ℕ) (name_lens names counts : List ℕ) → KeepsNames name_lens names k.width k.peers C.N
         → KeepsPost counts m.places m.mail k.size k.peers (took i x C.P) → (len from : ℕ) (b : Body)
-        → Core (addressed m nameLens names counts) (holding k k.peers len from) (hearing a x b h)
-    core_took x nameLens names counts L K len from b =
-        subst (λ (c : Address). Core (addressed m nameLens names counts) (holding k k.peers len from) (hearing c x b h)) is
+        → Core (addressed m name_lens names counts) (holding k k.peers len from) (hearing a x b h)
+    core_took x name_lens names counts L K len from b =
+        subst (λ (c : Address). Core (addressed m name_lens names counts) (holding k k.peers len from) (hearing c x b h)) is
         (record {
           N = C.N;
           f = C.f;
@@ -269,11 +269,11 @@ module _ (m : Memory) (k : State) (h : Host) (C : Core m k h) where
           turns_is = C.turns_is;
         })
 
-  pub core_joined : (a : Address) → Strange C.N k.peers a → (x : ℕ) (nameLens names counts : List ℕ)
-      → KeepsNames nameLens names k.width (k.peers + 1) (named k.peers a C.N)
+  pub core_joined : (a : Address) → Strange C.N k.peers a → (x : ℕ) (name_lens names counts : List ℕ)
+      → KeepsNames name_lens names k.width (k.peers + 1) (named k.peers a C.N)
       → KeepsPost counts m.places m.mail k.size (k.peers + 1) (took k.peers x (joined k.peers C.P)) → (len from : ℕ) (b : Body)
-      → Core (addressed m nameLens names counts) (holding k (k.peers + 1) len from) (hearing a x b h)
-  core_joined a s x nameLens names counts L K len from b = record {
+      → Core (addressed m name_lens names counts) (holding k (k.peers + 1) len from) (hearing a x b h)
+  core_joined a s x name_lens names counts L K len from b = record {
     N = named k.peers a C.N;
     f = C.f;
     T = C.T;

@@ -14,7 +14,7 @@ use Rattle.message.specs.Table.{written}
 use Rattle.memory.proofs.Parts.{length_part}
 use Rattle.peers.proofs.Laws.{place_fits}
 use Rattle.delivery.specs.Post.{posted, last}
-use Rattle.delivery.specs.Memory.{Keeps as KeepsPost, Standing, markAt, datagramAt}
+use Rattle.delivery.specs.Memory.{Keeps as KeepsPost, Standing, mark_at, datagram_at}
 use Rattle.protocol.specs.State.{Host, done}
 use Rattle.protocol.specs.Records.{look}
 use Rattle.format.specs.Format.{Entry, Above}
@@ -25,31 +25,31 @@ use Rattle.protocol.specs.Process.{free, answering}
 use Rattle.hosts.specs.declared.State.{State}
 use Rattle.hosts.specs.declared.Processed.{Processed}
 use Rattle.hosts.specs.declared.Processed.TheVariants.{Unnumbered}
-use Rattle.hosts.specs.Memory.{Memory, memory, name_at, packetAt}
+use Rattle.hosts.specs.Memory.{Memory, memory, name_at, packet_at}
 use Rattle.hosts.specs.Keeps.{Core}
-use Rattle.hosts.specs.Answers.{outcomeOf, sendsOf, emptied, filled, Does}
+use Rattle.hosts.specs.Answers.{outcome_of, sends_of, emptied, filled, Does}
 use Rattle.hosts.proofs.Says.{last_is, says_done, says_posted}
 
 -- the memory with other words of peers and places, and other mail
 abbrev pub mailed : Memory → (counts places mail : List ℕ) → Memory
 mailed m counts places mail =
-    memory m.lows m.owners m.keys m.slots m.lens m.values m.nameLens m.names counts places mail
+    memory m.lows m.owners m.keys m.slots m.lens m.values m.name_lens m.names counts places mail
 
 -- .. and with another table
 abbrev pub tabled : Memory → (keys slots lens values : List ℕ) → Memory
 tabled m keys slots lens values =
-    memory m.lows m.owners keys slots lens values m.nameLens m.names m.counts m.places m.mail
+    memory m.lows m.owners keys slots lens values m.name_lens m.names m.counts m.places m.mail
 
 module _ (m : Memory) (k : State) (h : Host) (C : Core m k h) where
   -- the name of a peer stands in memory
-  pub name_is : (i : ℕ) → i < k.peers → name_at m.nameLens m.names k.width i ≡ C.N i
+  pub name_is : (i : ℕ) → i < k.peers → name_at m.name_lens m.names k.width i ≡ C.N i
   name_is i p = C.names_kept.is i p
 
   pub name_short : (i : ℕ) → i < k.peers → length (C.N i) ≤ k.width
   name_short i p =
       let s = C.names_kept.short i p in
       let f = place_fits i k.peers k.width (length m.names) p C.names_kept.fits_names in
-      let e = length_part m.names (i * k.width) (get_or m.nameLens i 0) (omega (arith, f, s)) in
+      let e = length_part m.names (i * k.width) (get_or m.name_lens i 0) (omega (arith, f, s)) in
       omega (arith, s, e, ap length (C.names_kept.is i p))
 
   -- the room is free, and that is all
@@ -112,12 +112,12 @@ module _ (m : Memory) (k : State) (h : Host) (C : Core m k h) where
       }
 
   -- what the room held is dropped
-  pub does_dropped : (r : Processed) → sendsOf m (emptied k) r ≡ [] → Does m (emptied k) r (still (free h) (outcomeOf r))
+  pub does_dropped : (r : Processed) → sends_of m (emptied k) r ≡ [] → Does m (emptied k) r (still (free h) (outcome_of r))
   does_dropped r e = record { core = core_free; outcome = refl; sends = e }
 
   -- ---- a step that answers peer i, which has the address a
 
-  module _ (i : ℕ) (p : i < k.peers) (a : Address) (named : name_at m.nameLens m.names k.width i ≡ a) where
+  module _ (i : ℕ) (p : i < k.peers) (a : Address) (named : name_at m.name_lens m.names k.width i ≡ a) where
     address_is : C.N i ≡ a
     address_is = sym (name_is i p) ∙ named
 
@@ -139,24 +139,24 @@ module _ (m : Memory) (k : State) (h : Host) (C : Core m k h) where
     pub answered : (x : ℕ) → x ≡ suc (last C.P i) → x < numbers → (b : Body) (q : ℕ) (counts places mail : List ℕ)
         → KeepsPost counts places mail k.size k.peers (posted i (written (message x (C.N i) b)) C.P)
         → Standing places mail k.size q i x (written (message x (C.N i) b)) → (r : Processed) → (e : Option Request)
-        → sendsOf (mailed m counts places mail) (emptied k) r ≡ packetAt (mailed m counts places mail) k.width k.size q ∷ []
-        → Does (mailed m counts places mail) (emptied k) r (answering (numbered h a) (free h) a b (outcomeOf r) e)
+        → sends_of (mailed m counts places mail) (emptied k) r ≡ packet_at (mailed m counts places mail) k.width k.size q ∷ []
+        → Does (mailed m counts places mail) (emptied k) r (answering (numbered h a) (free h) a b (outcome_of r) e)
     answered x xe small b q counts places mail K S r e one =
         let n : x ≡ next h (C.N i) = number_is x xe in
         let t : numbered h (C.N i) ≡ true = lt-ltb (next h (C.N i)) numbers (subst (λ (y : ℕ). y < numbers) n small) in
         let K' = subst (λ (y : ℕ). KeepsPost counts places mail k.size k.peers (posted i (written (message y (C.N i) b)) C.P)) n K in
-        let S' = subst (λ (y : ℕ). datagramAt places mail k.size q ≡ written (message y (C.N i) b)) n S.is in
+        let S' = subst (λ (y : ℕ). datagram_at places mail k.size q ≡ written (message y (C.N i) b)) n S.is in
         let M = mailed m counts places mail in
-        let w : markAt places q - 1 ≡ i = omega (arith, S.mark) in
-        let to : name_at m.nameLens m.names k.width (markAt places q - 1) ≡ C.N i =
-        ap (name_at m.nameLens m.names k.width) w ∙ name_is i p in
-        let D : Does M (emptied k) r (answering true (free h) (C.N i) b (outcomeOf r) e) = record {
+        let w : mark_at places q - 1 ≡ i = omega (arith, S.mark) in
+        let to : name_at m.name_lens m.names k.width (mark_at places q - 1) ≡ C.N i =
+        ap (name_at m.name_lens m.names k.width) w ∙ name_is i p in
+        let D : Does M (emptied k) r (answering true (free h) (C.N i) b (outcome_of r) e) = record {
           core = core_sent i p b counts places mail K';
           outcome = refl;
           sends = one ∙ ap₂ (λ (u : Address) (v : List ℕ). record { to = u; bytes = v } ∷ []) to S';
         } in
-        subst (λ (y : Address). Does M (emptied k) r (answering (numbered h y) (free h) y b (outcomeOf r) e)) address_is
-        (subst (λ (y : Bool). Does M (emptied k) r (answering y (free h) (C.N i) b (outcomeOf r) e)) (sym t) D)
+        subst (λ (y : Address). Does M (emptied k) r (answering (numbered h y) (free h) y b (outcome_of r) e)) address_is
+        (subst (λ (y : Bool). Does M (emptied k) r (answering y (free h) (C.N i) b (outcome_of r) e)) (sym t) D)
 
     -- no number is left, and the room is free
     pub unanswered : numbers ≤ suc (last C.P i) → (b : Body) (o : Outcome) (e : Option Request)

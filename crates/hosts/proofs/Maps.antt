@@ -20,7 +20,7 @@ use Rattle.delegation.specs.declared.Changed.TheVariants.{NoRoom}
 use Rattle.delegation.specs.Map.{Takes, updated, room, AfterSet, Left}
 use Rattle.delegation.proofs.Laws.{keeps_cong, takes_unique}
 use Rattle.protocol.specs.Address.{among}
-use Rattle.protocol.specs.Owners.{ownerOf, giving}
+use Rattle.protocol.specs.Owners.{owner_of, giving}
 use Rattle.protocol.specs.State.{Host}
 use Rattle.hosts.specs.declared.State.{State}
 use Rattle.hosts.specs.Memory.{Memory}
@@ -93,17 +93,17 @@ module _ (m : Memory) (k : State) (h : Host) (C : Core m k h) where
       ∙ sym (le-ltb i k.hosts q))
       (lt_or_ge i k.hosts))
 
-  pub index_owner : (x : ℕ) → index_of (ownerOf h.owners x) h.hosts ≡ C.f x
+  pub index_owner : (x : ℕ) → index_of (owner_of h.owners x) h.hosts ≡ C.f x
   index_owner x =
       subst (λ (a : Address). index_of a h.hosts ≡ C.f x) (C.says.owner_is x) (index_host (C.f x) (C.says.owner_in x))
 
   -- ---- the range [lo, hi) given to the host with the number i
 
   module _ (lo hi : Bound) (i : ℕ) (p : i < k.hosts) where
-    pub giving_is : (x : ℕ) → C.N (updated lo hi i C.f x) ≡ ownerOf (giving lo hi (C.N i) h.owners) x
+    pub giving_is : (x : ℕ) → C.N (updated lo hi i C.f x) ≡ owner_of (giving lo hi (C.N i) h.owners) x
     giving_is x = go (holds lo hi x)
       where
-        go : (t : Bool) → C.N (cond t i (C.f x)) ≡ cond t (C.N i) (ownerOf h.owners x)
+        go : (t : Bool) → C.N (cond t i (C.f x)) ≡ cond t (C.N i) (owner_of h.owners x)
         go true = refl
         go false = C.says.owner_is x
 
@@ -114,7 +114,7 @@ module _ (m : Memory) (k : State) (h : Host) (C : Core m k h) where
         go true = p
         go false = C.says.owner_in x
 
-    pub index_giving : (x : ℕ) → index_of (ownerOf (giving lo hi (C.N i) h.owners) x) h.hosts ≡ updated lo hi i C.f x
+    pub index_giving : (x : ℕ) → index_of (owner_of (giving lo hi (C.N i) h.owners) x) h.hosts ≡ updated lo hi i C.f x
     index_giving x =
         subst (λ (a : Address). index_of a h.hosts ≡ updated lo hi i C.f x) (giving_is x)
         (index_host (updated lo hi i C.f x) (giving_in x))

@@ -14,7 +14,7 @@ use Rattle.records.specs.Table.{Table}
 use Rattle.delivery.specs.Post.{Post, posted, last}
 use Rattle.delivery.proofs.Laws.{at_same as peer-same, at_other as peer-other}
 use Rattle.protocol.specs.Records.{look}
-use Rattle.protocol.specs.Owners.{Owners, ownerOf}
+use Rattle.protocol.specs.Owners.{Owners, owner_of}
 use Rattle.protocol.specs.State.{Host, done}
 use Rattle.protocol.specs.Delivery.{posted as sent, next}
 use Rattle.hosts.specs.Says.{datagrams, Says}
@@ -45,7 +45,7 @@ module _ (N : ℕ → Address) (n hosts me : ℕ) (f : ℕ → ℕ) (T : Table) 
 
   -- ---- the map, the table and the count changed, and the room free
 
-  pub says_done : (f' : ℕ → ℕ) (T' : Table) (o : Owners) (l : List Entry) (t : ℕ) → ((k : ℕ) → f' k < hosts) → ((k : ℕ) → N (f' k) ≡ ownerOf o k)
+  pub says_done : (f' : ℕ → ℕ) (T' : Table) (o : Owners) (l : List Entry) (t : ℕ) → ((k : ℕ) → f' k < hosts) → ((k : ℕ) → N (f' k) ≡ owner_of o k)
       → ((k : ℕ) → T' k ≡ look k l) → Above 0 l → Says N n hosts me f' T' P (done o l t h)
   says_done f' T' o l t p q r s = record {
     few = S.few;

@@ -6,7 +6,7 @@ use mathlib.Core.Option.{Option, none, some}
 use Prim.Native.Nat.{ℕ, ◌+◌, ◌*◌, ◌≤◌, ◌<◌}
 use native.Mathlib.Omega.{arith}
 use lib.ListN.{length, length-append}
-use Rattle.limits.specs.Limits.{valueMax, entriesLimit, numbers}
+use Rattle.limits.specs.Limits.{value_max, entries_limit, numbers}
 use Rattle.keys.specs.declared.Bound.{Bound}
 use Rattle.keys.specs.declared.Bound.TheVariants.{Key, End}
 use Rattle.format.specs.Number.{width, digits}
@@ -14,29 +14,29 @@ use Rattle.format.specs.Format.{number, maybe, Entry, counted, encode, Good, lis
 use Rattle.format.proofs.Numbers.{length_digits}
 use Rattle.format.proofs.Clear.{length_counted}
 use Rattle.message.specs.Message.{Address, Body, message, reply, redirect, delegate}
-use Rattle.message.specs.Table.{value, key_of, bodyValue, fields, written, Valid}
+use Rattle.message.specs.Table.{value, key_of, body_value, fields, written, Valid}
 use Rattle.message.proofs.Laws.{Short, rows_short}
 use Rattle.hosts.specs.Keeps.{Sized}
 
 -- the length of a message, by that of its body's fields
 length_message : (x : ℕ) (a : Address) (b : Body)
-    → length (written (message x a b)) ≡ 1 + width + width + length a + 1 + length (encode (fields (bodyValue b).0) (bodyValue b).1)
+    → length (written (message x a b)) ≡ 1 + width + width + length a + 1 + length (encode (fields (body_value b).0) (body_value b).1)
 length_message x a b =
-    let e = encode (fields (bodyValue b).0) (bodyValue b).1 in
+    let e = encode (fields (body_value b).0) (body_value b).1 in
     omega (
       arith,
-      length-append (digits width x) (counted a ++ ((bodyValue b).0 ∷ e)),
+      length-append (digits width x) (counted a ++ ((body_value b).0 ∷ e)),
       length_digits width x,
-      length-append (counted a) ((bodyValue b).0 ∷ e),
+      length-append (counted a) ((body_value b).0 ∷ e),
       length_counted a,
     )
 
 -- a value that a table keeps, or none
 abbrev pub ShortValue : Option (List ℕ) → Type 0
 ShortValue none = Unit
-ShortValue (some v) = length v ≤ valueMax
+ShortValue (some v) = length v ≤ value_max
 
-length_value : (v : Option (List ℕ)) → ShortValue v → length (encode (maybe value) v) ≤ 1 + width + valueMax
+length_value : (v : Option (List ℕ)) → ShortValue v → length (encode (maybe value) v) ≤ 1 + width + value_max
 length_value none h = omega arith
 length_value (some v) h = omega (arith, length_counted v)
 
@@ -78,10 +78,10 @@ module _ (w size : ℕ) (S : Sized w size) (x : ℕ) (n : x < numbers) (a : Addr
         S.fits_redirect,
       )
 
-  pub delegate_fits : (lo hi : Bound) (l : List Entry) → length l < entriesLimit → Short l
+  pub delegate_fits : (lo hi : Bound) (l : List Entry) → length l < entries_limit → Short l
       → length (written (message x a (delegate lo hi l))) ≤ size
   delegate_fits lo hi l few s =
-      let r : length (rows l) ≤ length l * (width + width + valueMax) = rows_short l s in
+      let r : length (rows l) ≤ length l * (width + width + value_max) = rows_short l s in
       omega (
         arith,
         length_message x a (delegate lo hi l),

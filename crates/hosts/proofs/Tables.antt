@@ -19,7 +19,7 @@ use Rattle.records.specs.Memory.{Keeps}
 use Rattle.records.proofs.Laws.{size_unique, listed_same, keeps_size, replaced_at, replaced_in, replaced_out}
 use Rattle.records.proofs.Tables.{find_place, listed_cong}
 use Rattle.protocol.specs.Records.{look, setting, in_range, outside, replacing}
-use Rattle.protocol.proofs.Entries.{above_kept, look_setting, look_inRange, look_outside, above_replacing, or_else, look_replacing}
+use Rattle.protocol.proofs.Entries.{above_kept, look_setting, look_in_range, look_outside, above_replacing, or_else, look_replacing}
 
 -- ---- a list by its places
 
@@ -147,7 +147,7 @@ module _ (T : Table) (l : List Entry) (e : (k : ℕ) → T k ≡ look k l) (a : 
 
   -- a range alone
   pub within_is : (lo hi : Bound) (k : ℕ) → within lo hi T k ≡ look k (in_range lo hi l)
-  within_is lo hi k = ap (λ (w : Option Value). cond (holds lo hi k) w none) (e k) ∙ sym (look_inRange lo hi k l)
+  within_is lo hi k = ap (λ (w : Option Value). cond (holds lo hi k) w none) (e k) ∙ sym (look_in_range lo hi k l)
 
   pub size_within : (lo hi : Bound) (r : ℕ) → Size (within lo hi T) r → r ≡ length (in_range lo hi l)
   size_within lo hi = size_is (within lo hi T) (in_range lo hi l) (within_is lo hi) (above_kept (holds lo hi) 0 l a)

@@ -8,7 +8,7 @@ use Rattle.delegation.specs.Map.{Takes}
 use Rattle.decoding.specs.Decode.{same}
 use Rattle.protocol.specs.Address.{among}
 use Rattle.protocol.specs.Records.{Value, look, replacing}
-use Rattle.protocol.specs.Owners.{Owners, ownerOf, giving}
+use Rattle.protocol.specs.Owners.{Owners, owner_of, giving}
 use Rattle.protocol.specs.State.{Host, Letter}
 use Rattle.protocol.specs.Process.{long, unfit, refused}
 
@@ -24,9 +24,9 @@ pub record Limits : Type 0 where
 -- ---- counts
 
 -- how many messages wait, for these addresses in all
-abbrev pub waitingFor : Host → List Address → ℕ
-waitingFor h [] = 0
-waitingFor h (a ∷ l) = length (h.waiting a) + waitingFor h l
+abbrev pub waiting_for : Host → List Address → ℕ
+waiting_for h [] = 0
+waiting_for h (a ∷ l) = length (h.waiting a) + waiting_for h l
 
 -- where on the list the address stands
 abbrev pub index_of : Address → List Address → ℕ
@@ -35,13 +35,13 @@ index_of a (b ∷ l) = cond (same a b) 0 (suc (index_of a l))
 
 -- the owner of each key, as its place on the list of hosts, takes at most so many bounds
 abbrev pub Bounded : ℕ → Host → Owners → Type 0
-Bounded most h o = (m : ℕ) × Takes (λ k. index_of (ownerOf o k) h.hosts) m × (m ≤ most)
+Bounded most h o = (m : ℕ) × Takes (λ k. index_of (owner_of o k) h.hosts) m × (m ≤ most)
 
 -- ---- room
 
 -- there is a place for one more message
 abbrev pub Place : Limits → Host → Type 0
-Place L h = waitingFor h h.peers < L.waiting
+Place L h = waiting_for h h.peers < L.waiting
 
 -- What carrying a message out needs: an answer a place; a transfer a map and a table that fit after it. What is only dropped needs nothing, and a
 -- Set never needs room in the table, since one that finds it full is dropped
@@ -66,22 +66,22 @@ pub record Roomy (L : Limits) (h : Host) (l : Letter) (s : List ℕ) : Type 0 wh
 
 -- ---- does the table have a place for the value of a Set?
 
-abbrev pub isThere : Option Value → Bool
-isThere none = false
-isThere (some v) = true
+abbrev pub is_there : Option Value → Bool
+is_there none = false
+is_there (some v) = true
 
-abbrev pub fitsValue : ℕ → Host → ℕ → Option Value → Bool
-fitsValue entries h k none = true
-fitsValue entries h k (some v) = cond (isThere (look k h.records)) true (ltb (length h.records) entries)
+abbrev pub fits_value : ℕ → Host → ℕ → Option Value → Bool
+fits_value entries h k none = true
+fits_value entries h k (some v) = cond (is_there (look k h.records)) true (ltb (length h.records) entries)
 
-abbrev pub fitsBody : ℕ → Host → Body → Bool
-fitsBody entries h (get k) = true
-fitsBody entries h (set k v) = fitsValue entries h k v
-fitsBody entries h (reply k v) = true
-fitsBody entries h (redirect k a) = true
-fitsBody entries h (shard lo hi a) = true
-fitsBody entries h (delegate lo hi es) = true
+abbrev pub fits_body : ℕ → Host → Body → Bool
+fits_body entries h (get k) = true
+fits_body entries h (set k v) = fits_value entries h k v
+fits_body entries h (reply k v) = true
+fits_body entries h (redirect k a) = true
+fits_body entries h (shard lo hi a) = true
+fits_body entries h (delegate lo hi es) = true
 
-abbrev pub fitsRoom : ℕ → Host → Option Letter → Bool
-fitsRoom entries h none = true
-fitsRoom entries h (some l) = fitsBody entries h l.body
+abbrev pub fits_room : ℕ → Host → Option Letter → Bool
+fits_room entries h none = true
+fits_room entries h (some l) = fits_body entries h l.body

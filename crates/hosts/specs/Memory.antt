@@ -3,7 +3,7 @@
 use Rattle.std.specs.Prelude.{List, ℕ, ◌*◌, ◌-◌, get_or}
 use Rattle.memory.specs.Bytes.{part}
 use Rattle.message.specs.Message.{Address}
-use Rattle.delivery.specs.Memory.{markAt, datagramAt}
+use Rattle.delivery.specs.Memory.{mark_at, datagram_at}
 use Rattle.protocol.specs.Delivery.{Packet}
 
 -- the map, the table, the names, and delivery; the room for a message that was received is lent beside them
@@ -14,21 +14,21 @@ pub record Memory : Type 0 where
   pub slots : List ℕ
   pub lens : List ℕ
   pub values : List ℕ
-  pub nameLens : List ℕ
+  pub name_lens : List ℕ
   pub names : List ℕ
   pub counts : List ℕ
   pub places : List ℕ
   pub mail : List ℕ
 
-abbrev pub memory : (lows owners keys slots lens values nameLens names counts places mail : List ℕ) → Memory
-memory lows owners keys slots lens values nameLens names counts places mail = record {
+abbrev pub memory : (lows owners keys slots lens values name_lens names counts places mail : List ℕ) → Memory
+memory lows owners keys slots lens values name_lens names counts places mail = record {
   lows = lows;
   owners = owners;
   keys = keys;
   slots = slots;
   lens = lens;
   values = values;
-  nameLens = nameLens;
+  name_lens = name_lens;
   names = names;
   counts = counts;
   places = places;
@@ -36,12 +36,12 @@ memory lows owners keys slots lens values nameLens names counts places mail = re
 }
 
 -- the address of peer i
-abbrev pub name_at : (nameLens names : List ℕ) → ℕ → ℕ → Address
-name_at nameLens names width i = part names (i * width) (get_or nameLens i 0)
+abbrev pub name_at : (name_lens names : List ℕ) → ℕ → ℕ → Address
+name_at name_lens names width i = part names (i * width) (get_or name_lens i 0)
 
 -- the datagram in place p, and whom it is for
-abbrev pub packetAt : Memory → (width size : ℕ) → ℕ → Packet
-packetAt m width size p = record {
-  to = name_at m.nameLens m.names width (markAt m.places p - 1);
-  bytes = datagramAt m.places m.mail size p;
+abbrev pub packet_at : Memory → (width size : ℕ) → ℕ → Packet
+packet_at m width size p = record {
+  to = name_at m.name_lens m.names width (mark_at m.places p - 1);
+  bytes = datagram_at m.places m.mail size p;
 }

@@ -8,7 +8,7 @@ use Rattle.message.specs.Table.{written}
 use Rattle.records.specs.Table.{Table}
 use Rattle.delivery.specs.Post.{Post}
 use Rattle.protocol.specs.Records.{look}
-use Rattle.protocol.specs.Owners.{ownerOf}
+use Rattle.protocol.specs.Owners.{owner_of}
 use Rattle.protocol.specs.State.{Host}
 
 -- the addresses of the first n peers
@@ -33,7 +33,7 @@ pub record Says (N : ℕ → Address) (n hosts me : ℕ) (f : ℕ → ℕ) (T : 
   pub hosts_are : firsts N hosts ≡ h.hosts
   pub peers_are : firsts N n ≡ h.peers
   pub owner_in : (k : ℕ) → f k < hosts
-  pub owner_is : (k : ℕ) → N (f k) ≡ ownerOf h.owners k
+  pub owner_is : (k : ℕ) → N (f k) ≡ owner_of h.owners k
   pub record_is : (k : ℕ) → T k ≡ look k h.records
   pub sorted : Above 0 h.records
   pub received_is : (i : ℕ) → i < n → P.received i ≡ h.received (N i)

@@ -4,7 +4,7 @@
 
 ghost use Rattle.std.specs.Prelude.{◌≡◌, suc, ◌<◌};
 ghost use Rattle.limits.specs.Limits.{numbers};
-ghost use Rattle.hosts.specs.Answers.{emptied, filled, moved, sentOr, droppedOf};
+ghost use Rattle.hosts.specs.Answers.{emptied, filled, moved, sent_or, dropped_of};
 
 use limits::NUMBER_MAX;
 
@@ -110,7 +110,7 @@ pub fn moved(k: State, bounds: usize, entries: usize) -> State
 
 // What became of a message that was to be answered: the outcome if the answer was sent.
 pub fn answered(k: State, sent: bool, outcome: Processed) -> Done
-    ensures { result ≡ sentOr k sent outcome }
+    ensures { result ≡ sent_or k sent outcome }
 {
     if sent {
         return Done {
@@ -126,7 +126,7 @@ pub fn answered(k: State, sent: bool, outcome: Processed) -> Done
 
 // The message is dropped.
 pub fn dropped(k: State) -> Done
-    ensures { result ≡ droppedOf k }
+    ensures { result ≡ dropped_of k }
 {
     Done {
         state: emptied(k),

@@ -20,14 +20,14 @@ use Rattle.decoding.specs.Decode.{read}
 use Rattle.decoding.proofs.Decided.{same_refl}
 use Rattle.protocol.specs.State.{Host, Letter}
 use Rattle.protocol.specs.Delivery.{Step, still}
-use Rattle.protocol.specs.Receive.{onNumber, onDatagram, onRoom, receive}
+use Rattle.protocol.specs.Receive.{on_number, on_datagram, on_room, receive}
 use Rattle.hosts.specs.declared.State.{State}
 use Rattle.hosts.specs.Memory.{Memory}
 use Rattle.hosts.specs.Keeps.{RoomCases, Keeps}
 use Rattle.incoming.specs.declared.Received.{Received}
 use Rattle.incoming.specs.declared.Received.TheVariants.{Full, Invalid, Elsewhere, Taken, Unreceived, Again, Future, Arrived, Stale, Unfit}
 use Rattle.incoming.specs.declared.Arrival.{Arrival}
-use Rattle.incoming.specs.Answers.{ackLength, outcomeOf, sendsOf, Receives}
+use Rattle.incoming.specs.Answers.{ack_length, outcome_of, sends_of, Receives}
 use Rattle.incoming.specs.Handled.{Handled}
 
 -- what was said of an answer holds of one that is equal to it
@@ -54,12 +54,12 @@ not_unfit o f e = subst Fit e f
 
 -- ---- the Ack
 
-length_ack : (n : ℕ) → length (written (ack n)) ≡ ackLength
+length_ack : (n : ℕ) → length (written (ack n)) ≡ ack_length
 length_ack n = ap suc (length_digits width n)
 
 -- it stands at the front, if there is memory for it
-pub ack_written : (n : ℕ) (d : List ℕ) (r : Written) (d' : List ℕ) → AfterWrite (ack n) d r d' → n < numbers → ackLength ≤ length d
-    → take ackLength d' ≡ written (ack n)
+pub ack_written : (n : ℕ) (d : List ℕ) (r : Written) (d' : List ℕ) → AfterWrite (ack n) d r d' → n < numbers → ack_length ≤ length d
+    → take ack_length d' ≡ written (ack n)
 ack_written n d (Bytes x) d' A q f =
     let e = length_ack n in
     subst (λ (l : ℕ). take l d' ≡ written (ack n)) e
@@ -75,15 +75,15 @@ module _ {m : Memory} {k : State} {room : List ℕ} {h : Host} (K : Keeps m k ro
 
 -- a step with which nothing changes and nothing is sent
 module _ {m : Memory} {k : State} {room : List ℕ} (a : Address) (ack : List ℕ) {h : Host} (K : Keeps m k room h) where
-  pub stays : (o : Received) → sendsOf a ack o ≡ [] → (t : Step) → t ≡ still h (outcomeOf o) → Receives m k room a ack o t
+  pub stays : (o : Received) → sends_of a ack o ≡ [] → (t : Step) → t ≡ still h (outcome_of o) → Receives m k room a ack o t
   stays o n t e = subst (λ (u : Step). Receives m k room a ack o u) (sym e) (record { keeps = K; outcome = refl; sends = n })
 
 -- the definition's step, by what the datagram is
 module _ (h : Host) (a : Address) (s : List ℕ) (free : h.room ≡ none) where
-  pub step_read : (roomy : Bool) (o : Option Datagram) → read s ≡ o → receive roomy h a s ≡ onDatagram roomy h a o
-  step_read roomy o q = ap (λ (r : Option Letter). onRoom r roomy h a s) free ∙ ap (onDatagram roomy h a) q
+  pub step_read : (roomy : Bool) (o : Option Datagram) → read s ≡ o → receive roomy h a s ≡ on_datagram roomy h a o
+  step_read roomy o q = ap (λ (r : Option Letter). on_room r roomy h a s) free ∙ ap (on_datagram roomy h a) q
 
   -- .. and, if it is a message for this host, by its number
   pub step_number : (roomy : Bool) (n : ℕ) (b : Body) → read s ≡ some (message n h.me b) → (new old : Bool) → eqb n (suc (h.received a)) ≡ new
-      → leb n (h.received a) ≡ old → receive roomy h a s ≡ onNumber new old roomy h a n b
+      → leb n (h.received a) ≡ old → receive roomy h a s ≡ on_number new old roomy h a n b
   step_number roomy n b q new old e f = step_read roomy (some (message n h.me b)) q ∙ rw (same_refl h.me, e, f) refl

@@ -39,10 +39,10 @@ number_in none = 0
 number_in (some (message n to b)) = n
 number_in (some (ack n)) = 0
 
-abbrev toIn : Option Datagram → Address
-toIn none = []
-toIn (some (message n to b)) = to
-toIn (some (ack n)) = []
+abbrev to_in : Option Datagram → Address
+to_in none = []
+to_in (some (message n to b)) = to
+to_in (some (ack n)) = []
 
 -- it is for this host
 mine : (h : Host) {s : List ℕ} {n : ℕ} {to : Part} {b : BodyView} → bytes_of s to ≡ h.me → AfterParse s (Message n to b)
@@ -50,19 +50,19 @@ mine : (h : Host) {s : List ℕ} {n : ℕ} {to : Part} {b : BodyView} → bytes_
 mine h {s} {n} {to} {b} e A = parse_reads s (Message n to b) A ∙ ap (λ (t : Address). some (message n t (body_of s b))) e
 
 -- what was said of the message, at the answer that was matched
-said : {lows owners keys slots lens values nameLens names counts places mail : List ℕ} {k : State} {a : Address} {s : List ℕ} {n : ℕ} {to : Part} {b : BodyView}
-    {q : Kind} → AfterSort nameLens names counts k a s n to q → (x : Kind) → q ≡ x → (h : Host)
-    → Core (memory lows owners keys slots lens values nameLens names counts places mail) k h → AfterParse s (Message n to b)
+said : {lows owners keys slots lens values name_lens names counts places mail : List ℕ} {k : State} {a : Address} {s : List ℕ} {n : ℕ} {to : Part} {b : BodyView}
+    {q : Kind} → AfterSort name_lens names counts k a s n to q → (x : Kind) → q ≡ x → (h : Host)
+    → Core (memory lows owners keys slots lens values name_lens names counts places mail) k h → AfterParse s (Message n to b)
     → Sorted x h a (bytes_of s to) n
 said {lows} {owners} {keys} {slots} {lens} {values} {places = places} {mail = mail} {a = a} {s = s} {n = n} {to = to} S x e h C A =
     subst (λ (y : Kind). Sorted y h a (bytes_of s to) n) e (S.is lows owners keys slots lens values places mail h C A.is.2)
 
-module _ {lows owners keys slots nameLens names counts places : List ℕ} {k : State} {room : List ℕ} {a : Address} {s d : List ℕ} {n : ℕ} {to : Part}
-    {b : BodyView} {q : Kind} (S : AfterSort nameLens names counts k a s n to q) where
+module _ {lows owners keys slots name_lens names counts places : List ℕ} {k : State} {room : List ℕ} {a : Address} {s d : List ℕ} {n : ℕ} {to : Part}
+    {b : BodyView} {q : Kind} (S : AfterSort name_lens names counts k a s n to q) where
   pub elsewhere : q ≡ Elsewhere → (lens values mail : List ℕ)
-      → Handled (λ h. AfterParse s (Message n to b)) (memory lows owners keys slots lens values nameLens names counts places mail) k room a s d
+      → Handled (λ h. AfterParse s (Message n to b)) (memory lows owners keys slots lens values name_lens names counts places mail) k room a s d
       (leaving k ForAnother)
-      (memory lows owners keys slots lens values nameLens names counts places mail)
+      (memory lows owners keys slots lens values name_lens names counts places mail)
       room
       d
   elsewhere o lens values mail = record {
@@ -70,7 +70,7 @@ module _ {lows owners keys slots nameLens names counts places : List ℕ} {k : S
         let r = parse_reads s (Message n to b) A in
         let f : bytes_of s to ≡ h.me → ⊥ = said S Elsewhere o h K.core A in (
           false,
-          λ x c z g y. absurd (f (ap toIn (sym r ∙ g))),
+          λ x c z g y. absurd (f (ap to_in (sym r ∙ g))),
           stays a d K ForAnother refl (receive false h a s)
               (step_read h a s e false (some (message n (bytes_of s to) (body_of s b))) r ∙ rw (same_false (bytes_of s to) h.me f) refl),
         );
@@ -79,9 +79,9 @@ module _ {lows owners keys slots nameLens names counts places : List ℕ} {k : S
   }
 
   pub again : q ≡ Again → {w : Written} {d' : List ℕ} → AfterWrite (ack n) d w d' → (lens values mail : List ℕ)
-      → Handled (λ h. AfterParse s (Message n to b)) (memory lows owners keys slots lens values nameLens names counts places mail) k room a s d
+      → Handled (λ h. AfterParse s (Message n to b)) (memory lows owners keys slots lens values name_lens names counts places mail) k room a s d
       (leaving k TakenBefore)
-      (memory lows owners keys slots lens values nameLens names counts places mail)
+      (memory lows owners keys slots lens values name_lens names counts places mail)
       room
       d'
   again o {w} {d'} W lens values mail = record {
@@ -90,7 +90,7 @@ module _ {lows owners keys slots nameLens names counts places : List ℕ} {k : S
         let r = mine h t.0 A in (
           false,
           λ x c z g y. let u : n ≡ x = ap number_in (sym r ∙ g) in absurd (omega (arith, t.1, u, y)),
-          subst (λ (u : Step). Receives (memory lows owners keys slots lens values nameLens names counts places mail) k room a d' TakenBefore u)
+          subst (λ (u : Step). Receives (memory lows owners keys slots lens values name_lens names counts places mail) k room a d' TakenBefore u)
               (sym
               (step_number h a s e false n (body_of s b) r false true (ne_eqb n (suc (h.received a)) (λ u. omega (arith, t.1, u))) (le-leb n (h.received a) t.1)))
               (record {
@@ -104,9 +104,9 @@ module _ {lows owners keys slots nameLens names counts places : List ℕ} {k : S
   }
 
   pub future : q ≡ Future → (lens values mail : List ℕ)
-      → Handled (λ h. AfterParse s (Message n to b)) (memory lows owners keys slots lens values nameLens names counts places mail) k room a s d
+      → Handled (λ h. AfterParse s (Message n to b)) (memory lows owners keys slots lens values name_lens names counts places mail) k room a s d
       (leaving k TooEarly)
-      (memory lows owners keys slots lens values nameLens names counts places mail)
+      (memory lows owners keys slots lens values name_lens names counts places mail)
       room
       d
   future o lens values mail = record {
@@ -124,9 +124,9 @@ module _ {lows owners keys slots nameLens names counts places : List ℕ} {k : S
 
   -- the next from its sender
   pub passed_on : {i : ℕ} → q ≡ Following i → {r : Arrival} {nameLens' names' counts' room' d' : List ℕ} → ((lens values mail : List ℕ)
-      → Handled (Next a s n b) (memory lows owners keys slots lens values nameLens names counts places mail) k room a s d r (memory lows owners keys slots lens values nameLens' names' counts' places mail) room' d')
+      → Handled (Next a s n b) (memory lows owners keys slots lens values name_lens names counts places mail) k room a s d r (memory lows owners keys slots lens values nameLens' names' counts' places mail) room' d')
       → (lens values mail : List ℕ)
-      → Handled (λ h. AfterParse s (Message n to b)) (memory lows owners keys slots lens values nameLens names counts places mail) k room a s d
+      → Handled (λ h. AfterParse s (Message n to b)) (memory lows owners keys slots lens values name_lens names counts places mail) k room a s d
       r
       (memory lows owners keys slots lens values nameLens' names' counts' places mail)
       room'

@@ -16,11 +16,11 @@ use Rattle.message.specs.declared.Written.{Written}
 use Rattle.decoding.proofs.Laws.{read_some}
 use Rattle.protocol.specs.State.{Host, Letter}
 use Rattle.protocol.specs.Delivery.{Step}
-use Rattle.protocol.specs.Receive.{onNumber, receive}
+use Rattle.protocol.specs.Receive.{on_number, receive}
 use Rattle.hosts.specs.declared.State.{State}
 use Rattle.hosts.specs.Memory.{memory}
 use Rattle.hosts.specs.Limits.{Needs}
-use Rattle.hosts.specs.Keeps.{limitsOf}
+use Rattle.hosts.specs.Keeps.{limits_of}
 use Rattle.rooms.specs.Answers.{Tested as RoomTested}
 use Rattle.taking.specs.declared.Taken.{Taken as Took}
 use Rattle.taking.specs.declared.Taken.TheVariants.{Now, NoRoom}
@@ -32,34 +32,34 @@ use Rattle.incoming.proofs.Room.{keeps_letter, was_roomy}
 use Rattle.incoming.proofs.Laws.{not_unfit, ack_written, stays, step_number}
 
 -- what was said of an answer holds of one that is equal to it
-pub take_as : {nameLens names counts room : List ℕ} {k : State} {a : Address} {x : ℕ} {s : List ℕ} {r t : Took} {nameLens' names' counts' room' : List ℕ}
-    → r ≡ t → AfterTake nameLens names counts room k a x s r nameLens' names' counts' room'
-    → AfterTake nameLens names counts room k a x s t nameLens' names' counts' room'
-take_as {nameLens} {names} {counts} {room} {k} {a} {x} {s} {nameLens' = nameLens'} {names' = names'} {counts' = counts'} {room' = room'} e A =
-    subst (λ (r : Took). AfterTake nameLens names counts room k a x s r nameLens' names' counts' room') e A
+pub take_as : {name_lens names counts room : List ℕ} {k : State} {a : Address} {x : ℕ} {s : List ℕ} {r t : Took} {nameLens' names' counts' room' : List ℕ}
+    → r ≡ t → AfterTake name_lens names counts room k a x s r nameLens' names' counts' room'
+    → AfterTake name_lens names counts room k a x s t nameLens' names' counts' room'
+take_as {name_lens} {names} {counts} {room} {k} {a} {x} {s} {nameLens' = nameLens'} {names' = names'} {counts' = counts'} {room' = room'} e A =
+    subst (λ (r : Took). AfterTake name_lens names counts room k a x s r nameLens' names' counts' room') e A
 
 -- the body of a message; of anything else, any
-abbrev bodyIn : Option Datagram → Body
-bodyIn none = get 0
-bodyIn (some (message n to b)) = b
-bodyIn (some (ack n)) = get 0
+abbrev body_in : Option Datagram → Body
+body_in none = get 0
+body_in (some (message n to b)) = b
+body_in (some (ack n)) = get 0
 
 -- the definition's step
 step_is : {a : Address} {s : List ℕ} {n : ℕ} {b : BodyView} (roomy : Bool) (h : Host) → Next a s n b h → h.room ≡ none
-    → receive roomy h a s ≡ onNumber true (leb n (h.received a)) roomy h a n (body_of s b)
+    → receive roomy h a s ≡ on_number true (leb n (h.received a)) roomy h a n (body_of s b)
 step_is {a} {s} {n} {b} roomy h X e =
     step_number h a s e roomy n (body_of s b) X.is true (leb n (h.received a)) (eq-eqb n (suc (h.received a)) X.next) refl
 
-module _ {lows owners keys slots nameLens names counts places : List ℕ} {k : State} {room : List ℕ} {a : Address} {s d : List ℕ} {n : ℕ} {b : BodyView} where
+module _ {lows owners keys slots name_lens names counts places : List ℕ} {k : State} {room : List ℕ} {a : Address} {s d : List ℕ} {n : ℕ} {b : BodyView} where
   -- ---- there is no room
 
-  pub unroomy : {t : Bool} → RoomTested lows owners keys slots nameLens names places k a s b t → t ≡ false → (lens values mail : List ℕ)
-      → Handled (Next a s n b) (memory lows owners keys slots lens values nameLens names counts places mail) k room a s d (leaving k Unreceived)
-      (memory lows owners keys slots lens values nameLens names counts places mail)
+  pub unroomy : {t : Bool} → RoomTested lows owners keys slots name_lens names places k a s b t → t ≡ false → (lens values mail : List ℕ)
+      → Handled (Next a s n b) (memory lows owners keys slots lens values name_lens names counts places mail) k room a s d (leaving k Unreceived)
+      (memory lows owners keys slots lens values name_lens names counts places mail)
       room
       d
   unroomy T f lens values mail =
-      let m = memory lows owners keys slots lens values nameLens names counts places mail in
+      let m = memory lows owners keys slots lens values name_lens names counts places mail in
       record {
         is = λ h X K e q. (
           false,
@@ -68,7 +68,7 @@ module _ {lows owners keys slots nameLens names counts places : List ℕ} {k : S
             λ o R.
                 let l : Letter = record { from = a; number = x; body = c } in
                 T.lacks f lens values counts mail room h l K.core refl X.body_in
-                (subst (λ (v : Body). Needs (limitsOf m k room) h l v) (sym (ap bodyIn (sym X.is ∙ g))) R.needs),
+                (subst (λ (v : Body). Needs (limits_of m k room) h l v) (sym (ap body_in (sym X.is ∙ g))) R.needs),
           ),
           stays a d K Unreceived refl (receive false h a s) (step_is false h X e),
         );
@@ -76,9 +76,9 @@ module _ {lows owners keys slots nameLens names counts places : List ℕ} {k : S
         fit = not_unfit Unreceived tt;
       }
 
-  pub no_room : {nameLens' names' counts' room' : List ℕ} → AfterTake nameLens names counts room k a n s NoRoom nameLens' names' counts' room'
+  pub no_room : {nameLens' names' counts' room' : List ℕ} → AfterTake name_lens names counts room k a n s NoRoom nameLens' names' counts' room'
       → (lens values mail : List ℕ)
-      → Handled (Next a s n b) (memory lows owners keys slots lens values nameLens names counts places mail) k room a s d (leaving k Unreceived)
+      → Handled (Next a s n b) (memory lows owners keys slots lens values name_lens names counts places mail) k room a s d (leaving k Unreceived)
       (memory lows owners keys slots lens values nameLens' names' counts' places mail)
       room'
       d
@@ -95,32 +95,32 @@ module _ {lows owners keys slots nameLens names counts places : List ℕ} {k : S
 
   -- ---- it is taken
 
-  pub taken : {t : Bool} → RoomTested lows owners keys slots nameLens names places k a s b t → t ≡ true
+  pub taken : {t : Bool} → RoomTested lows owners keys slots name_lens names places k a s b t → t ≡ true
       → {nameLens' names' counts' room' d' : List ℕ} {k' : State} {w : Written} {p : ℕ}
-      → AfterTake nameLens names counts room k a n s (Now k') nameLens' names' counts' room' → AfterWrite (ack n) d w d'
-      → length nameLens' ≡ length nameLens → length names' ≡ length names → length counts' ≡ length counts → length room' ≡ length room
+      → AfterTake name_lens names counts room k a n s (Now k') nameLens' names' counts' room' → AfterWrite (ack n) d w d'
+      → length nameLens' ≡ length name_lens → length names' ≡ length names → length counts' ≡ length counts → length room' ≡ length room
       → (lens values mail : List ℕ)
-      → Handled (Next a s n b) (memory lows owners keys slots lens values nameLens names counts places mail) k room a s d
+      → Handled (Next a s n b) (memory lows owners keys slots lens values name_lens names counts places mail) k room a s d
       (record { state = k'; outcome = Taken; place = p })
       (memory lows owners keys slots lens values nameLens' names' counts' places mail)
       room'
       d'
   taken T f {nameLens'} {names'} {counts'} {room'} {d'} {k'} {w} Z W p1 p2 p3 p4 lens values mail =
-      let m = memory lows owners keys slots lens values nameLens names counts places mail in
+      let m = memory lows owners keys slots lens values name_lens names counts places mail in
       let m' = memory lows owners keys slots lens values nameLens' names' counts' places mail in
       record {
         is = λ h X K e q.
             let t = Z.is lows owners keys slots lens values places mail h K.core in
             let c' = body_of s b in
-            let N : (x : ℕ) (c : Body) → c' ≡ c → Needs (limitsOf m k room) h (record { from = a; number = x; body = c }) c =
+            let N : (x : ℕ) (c : Body) → c' ≡ c → Needs (limits_of m k room) h (record { from = a; number = x; body = c }) c =
             λ x c v.
-            subst (λ (u : Body). Needs (limitsOf m k room) h (record { from = a; number = x; body = c }) u) v
+            subst (λ (u : Body). Needs (limits_of m k room) h (record { from = a; number = x; body = c }) u) v
             (T.roomy f lens values counts mail room h (record { from = a; number = x; body = c }) K.core refl X.body_in) in (
               true,
               λ x c z g y. (
                 λ o.
                     was_roomy m k h K.core a n c' nameLens' names' counts' room room' k' (t.0 c') s t.1 t.2 p1 p2 p3 p4 x c
-                    (N x c (ap bodyIn (sym X.is ∙ g))),
+                    (N x c (ap body_in (sym X.is ∙ g))),
                 λ o. absurd (true≢false o),
               ),
               subst (λ (u : Step). Receives m' k' room' a d' Taken u) (sym (step_is true h X e))

@@ -15,47 +15,47 @@ use Rattle.incoming.specs.declared.Received.{Received}
 use Rattle.incoming.specs.declared.Received.TheVariants.{Full, Invalid, Elsewhere, Taken, Unreceived, Again, Future, Arrived, Stale, Unfit}
 
 -- the bytes of an Ack
-abbrev pub ackLength : ℕ
-ackLength = 1 + width
+abbrev pub ack_length : ℕ
+ack_length = 1 + width
 
 -- the outcome by the definition's name. (Unfit is none of them: the step was not taken)
-abbrev pub outcomeOf : Received → Outcome
-outcomeOf Full = full
-outcomeOf Invalid = invalid
-outcomeOf Elsewhere = elsewhere
-outcomeOf Taken = taken
-outcomeOf Unreceived = unreceived
-outcomeOf Again = again
-outcomeOf Future = future
-outcomeOf Arrived = arrived
-outcomeOf Stale = stale
-outcomeOf Unfit = full
+abbrev pub outcome_of : Received → Outcome
+outcome_of Full = full
+outcome_of Invalid = invalid
+outcome_of Elsewhere = elsewhere
+outcome_of Taken = taken
+outcome_of Unreceived = unreceived
+outcome_of Again = again
+outcome_of Future = future
+outcome_of Arrived = arrived
+outcome_of Stale = stale
+outcome_of Unfit = full
 
 -- the Ack that is handed out to the address a, if there is one
-abbrev pub sendsOf : Address → (ack : List ℕ) → Received → List Packet
-sendsOf a ack Full = []
-sendsOf a ack Invalid = []
-sendsOf a ack Elsewhere = []
-sendsOf a ack Taken = record { to = a; bytes = take ackLength ack } ∷ []
-sendsOf a ack Unreceived = []
-sendsOf a ack Again = record { to = a; bytes = take ackLength ack } ∷ []
-sendsOf a ack Future = []
-sendsOf a ack Arrived = []
-sendsOf a ack Stale = []
-sendsOf a ack Unfit = []
+abbrev pub sends_of : Address → (ack : List ℕ) → Received → List Packet
+sends_of a ack Full = []
+sends_of a ack Invalid = []
+sends_of a ack Elsewhere = []
+sends_of a ack Taken = record { to = a; bytes = take ack_length ack } ∷ []
+sends_of a ack Unreceived = []
+sends_of a ack Again = record { to = a; bytes = take ack_length ack } ∷ []
+sends_of a ack Future = []
+sends_of a ack Arrived = []
+sends_of a ack Stale = []
+sends_of a ack Unfit = []
 
 -- the host itself stays as it was
-abbrev pub keepsAll : Received → Bool
-keepsAll Full = true
-keepsAll Invalid = true
-keepsAll Elsewhere = true
-keepsAll Taken = false
-keepsAll Unreceived = true
-keepsAll Again = true
-keepsAll Future = true
-keepsAll Arrived = false
-keepsAll Stale = true
-keepsAll Unfit = true
+abbrev pub keeps_all : Received → Bool
+keeps_all Full = true
+keeps_all Invalid = true
+keeps_all Elsewhere = true
+keeps_all Taken = false
+keeps_all Unreceived = true
+keeps_all Again = true
+keeps_all Future = true
+keeps_all Arrived = false
+keeps_all Stale = true
+keeps_all Unfit = true
 
 -- roomy is the answer of the room test for a message that would be taken, being for this host, the next from its sender and come while the room is
 -- free: exactly if there is room for all that it may need. Of anything else the test is not asked
@@ -68,5 +68,5 @@ Tested L h a s roomy =
 -- memory keeps the host after the definition's step, and the outcome and the Ack are the definition's
 pub record Receives (m : Memory) (k : State) (room : List ℕ) (a : Address) (ack : List ℕ) (r : Received) (s : Step) : Type 0 where
   pub keeps : Keeps m k room s.state
-  pub outcome : outcomeOf r ≡ s.outcome
-  pub sends : sendsOf a ack r ≡ s.sends
+  pub outcome : outcome_of r ≡ s.outcome
+  pub sends : sends_of a ack r ≡ s.sends

@@ -10,11 +10,11 @@ use Rattle.protocol.specs.State.{Host}
 use Rattle.protocol.specs.Receive.{receive}
 use Rattle.hosts.specs.declared.State.{State}
 use Rattle.hosts.specs.Memory.{Memory}
-use Rattle.hosts.specs.Keeps.{limitsOf, Keeps}
+use Rattle.hosts.specs.Keeps.{limits_of, Keeps}
 use Rattle.incoming.specs.declared.Received.{Received}
 use Rattle.incoming.specs.declared.Received.TheVariants.{Unfit}
 use Rattle.incoming.specs.declared.Arrival.{Arrival}
-use Rattle.incoming.specs.Answers.{ackLength, keepsAll, Tested, Receives}
+use Rattle.incoming.specs.Answers.{ack_length, keeps_all, Tested, Receives}
 
 -- the numbers stay as they are, and that became of the datagram
 abbrev pub leaving : State → Received → Arrival
@@ -23,9 +23,9 @@ leaving k o = record { state = k; outcome = o; place = 0 }
 -- The room is free and there is memory for an Ack: for each host of which that is known, the answer is the definition's
 pub record Handled (known : Host → Type 0) (m : Memory) (k : State) (room : List ℕ) (a : Address) (s ack : List ℕ) (r : Arrival) (m' : Memory)
     (room' ack' : List ℕ) : Type 0 where
-  pub is : (h : Host) → known h → Keeps m k room h → h.room ≡ none → ackLength ≤ length ack
-      → (roomy : Bool) × Tested (limitsOf m k room) h a s roomy × Receives m' r.state room' a ack' r.outcome (receive roomy h a s)
-  pub same : keepsAll r.outcome ≡ true → (m' ≡ m) × (r.state ≡ k) × (room' ≡ room)
+  pub is : (h : Host) → known h → Keeps m k room h → h.room ≡ none → ack_length ≤ length ack
+      → (roomy : Bool) × Tested (limits_of m k room) h a s roomy × Receives m' r.state room' a ack' r.outcome (receive roomy h a s)
+  pub same : keeps_all r.outcome ≡ true → (m' ≡ m) × (r.state ≡ k) × (room' ≡ room)
   pub fit : r.outcome ≡ Unfit → ⊥
 
 -- the datagram is a message for the host, and the next from its sender

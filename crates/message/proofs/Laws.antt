@@ -10,13 +10,13 @@ use lib.ListN.{length, take, drop, length-append}
 use lib.Seq.{take_at}
 use Rattle.keys.specs.declared.Bound.{Bound}
 use Rattle.keys.specs.declared.Bound.TheVariants.{Key, End}
-use Rattle.limits.specs.Limits.{valueMax, bytesMax, entriesLimit}
+use Rattle.limits.specs.Limits.{value_max, bytes_max, entries_limit}
 use Rattle.format.specs.Number.{width, digits}
 use Rattle.format.specs.Format.{Of, Entry, counted, rows, listing}
 use Rattle.format.proofs.Numbers.{length_digits}
 use Rattle.format.proofs.Clear.{injective, no_prefix}
 use Rattle.message.specs.Message.{Body, get, set, reply, redirect, shard, delegate, Datagram, message, ack}
-use Rattle.message.specs.Table.{datagram, key_of, bodyValue, datagramValue, boundOf, bodyIs, datagramIs, written, Valid}
+use Rattle.message.specs.Table.{datagram, key_of, body_value, datagram_value, bound_of, body_is, datagram_is, written, Valid}
 use Rattle.message.specs.View.{bytes_of, body_of}
 use Rattle.message.specs.Answers.{AfterParse, AfterWrite}
 use Rattle.message.specs.declared.Parsed.{Parsed}
@@ -25,11 +25,11 @@ use Rattle.message.specs.declared.Written.TheVariants.{Bytes}
 
 -- ---- a message is told by the value that is written
 
-same_bound : (b : Bound) → boundOf (key_of b) ≡ b
+same_bound : (b : Bound) → bound_of (key_of b) ≡ b
 same_bound (Key k) = refl
 same_bound End = refl
 
-same_body : (b : Body) → bodyIs (bodyValue b).0 (bodyValue b).1 ≡ b
+same_body : (b : Body) → body_is (body_value b).0 (body_value b).1 ≡ b
 same_body (get k) = refl
 same_body (set k v) = refl
 same_body (reply k v) = refl
@@ -37,23 +37,23 @@ same_body (redirect k a) = refl
 same_body (shard lo hi a) = λ i. shard (same_bound lo i) (same_bound hi i) a
 same_body (delegate lo hi l) = λ i. delegate (same_bound lo i) (same_bound hi i) l
 
-pub same_datagram : (m : Datagram) → datagramIs (datagramValue m).0 (datagramValue m).1 ≡ m
+pub same_datagram : (m : Datagram) → datagram_is (datagram_value m).0 (datagram_value m).1 ≡ m
 same_datagram (message n a b) = ap (message n a) (same_body b)
 same_datagram (ack n) = refl
 
-told : (m m' : Datagram) → datagramValue m ≡ datagramValue m' → m ≡ m'
-told m m' e = sym (same_datagram m) ∙ ap (λ (v : Of datagram). datagramIs v.0 v.1) e ∙ same_datagram m'
+told : (m m' : Datagram) → datagram_value m ≡ datagram_value m' → m ≡ m'
+told m m' e = sym (same_datagram m) ∙ ap (λ (v : Of datagram). datagram_is v.0 v.1) e ∙ same_datagram m'
 
 -- ---- the laws
 
 -- different messages have different bytes
 pub one_message : (m m' : Datagram) → Valid m → Valid m' → written m ≡ written m' → m ≡ m'
-one_message m m' g g' e = told m m' (injective datagram (datagramValue m) (datagramValue m') g g' e)
+one_message m m' g g' e = told m m' (injective datagram (datagram_value m) (datagram_value m') g g' e)
 
 -- .. and none of them begins another's
 pub no_message_begins : (m m' : Datagram) → Valid m → Valid m' → (rest : List ℕ) → written m ++ rest ≡ written m' → (m ≡ m') × (rest ≡ [])
 no_message_begins m m' g g' rest e =
-    let u = no_prefix datagram (datagramValue m) (datagramValue m') g g' rest e in (told m m' u.0, u.1)
+    let u = no_prefix datagram (datagram_value m) (datagram_value m') g g' rest e in (told m m' u.0, u.1)
 
 -- the message that an answer describes; for Invalid it is none
 abbrev pub Describes : List ℕ → Parsed → Datagram → Type 0
@@ -79,9 +79,9 @@ written_back m d n d' W r A =
 -- each value is one that a table keeps
 abbrev pub Short : List Entry → Type 0
 Short [] = Unit
-Short (e ∷ l) = (length e.value ≤ valueMax) × Short l
+Short (e ∷ l) = (length e.value ≤ value_max) × Short l
 
-pub rows_short : (l : List Entry) → Short l → length (rows l) ≤ length l * (width + width + valueMax)
+pub rows_short : (l : List Entry) → Short l → length (rows l) ≤ length l * (width + width + value_max)
 rows_short [] h = omega arith
 rows_short (e ∷ l) h =
     omega (
@@ -95,7 +95,7 @@ rows_short (e ∷ l) h =
       length_digits width (length e.value),
     )
 
-pub few_fit : (l : List Entry) → length l < entriesLimit → Short l → length (listing l) ≤ bytesMax
+pub few_fit : (l : List Entry) → length l < entries_limit → Short l → length (listing l) ≤ bytes_max
 few_fit l n h =
-    let r : length (rows l) ≤ length l * (width + width + valueMax) = rows_short l h in
+    let r : length (rows l) ≤ length l * (width + width + value_max) = rows_short l h in
     omega (arith, r, n, length-append (digits width (length l)) (rows l), length_digits width (length l))

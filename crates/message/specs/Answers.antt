@@ -1,7 +1,7 @@
 -- What reading a datagram answers, and what writing one does.
 -- Assumes nothing.
 use Rattle.std.specs.Prelude.{◌≡◌, List, [], ◌∷◌, ◌++◌, ℕ, ◌<◌, length}
-use Rattle.limits.specs.Limits.{bytesMax}
+use Rattle.limits.specs.Limits.{bytes_max}
 use Rattle.memory.specs.Bytes.{placed}
 use Rattle.format.specs.Number.{width, digits}
 use Rattle.format.specs.Format.{Format, Of, counted, encode, Good}

@@ -3,7 +3,7 @@
 -- Assumes nothing.
 use Rattle.std.specs.Prelude.{◌≡◌, List, [], ◌∷◌, ℕ, zero, suc, length, get_or}
 use Rattle.std.proofs.Math.Option.{Option, none, some}
-use Rattle.limits.specs.Limits.{bytesMax}
+use Rattle.limits.specs.Limits.{bytes_max}
 use Rattle.keys.specs.declared.Bound.{Bound}
 use Rattle.keys.specs.declared.Bound.TheVariants.{Key, End}
 use Rattle.format.specs.Number.{numbers}
@@ -13,7 +13,7 @@ use Rattle.message.specs.Message.{Body, get, set, reply, redirect, shard, delega
 -- ---- the fields
 
 abbrev pub address : Format
-address = string bytesMax
+address = string bytes_max
 
 -- a value may have any length here; what is done with a long one is another matter
 abbrev pub value : Format
@@ -33,7 +33,7 @@ bodies =
     ∷ pair number (maybe value)
     ∷ pair number address
     ∷ pair range address
-    ∷ pair range (entries bytesMax)
+    ∷ pair range (entries bytes_max)
     ∷ []
 
 abbrev pub fields : ℕ → Format
@@ -59,44 +59,44 @@ abbrev pub key_of : Bound → Option ℕ
 key_of (Key k) = some k
 key_of End = none
 
-abbrev pub bodyValue : Body → Of body
-bodyValue (get k) = (0, k)
-bodyValue (set k v) = (1, (k, v))
-bodyValue (reply k v) = (2, (k, v))
-bodyValue (redirect k a) = (3, (k, a))
-bodyValue (shard lo hi a) = (4, ((key_of lo, key_of hi), a))
-bodyValue (delegate lo hi l) = (5, ((key_of lo, key_of hi), l))
+abbrev pub body_value : Body → Of body
+body_value (get k) = (0, k)
+body_value (set k v) = (1, (k, v))
+body_value (reply k v) = (2, (k, v))
+body_value (redirect k a) = (3, (k, a))
+body_value (shard lo hi a) = (4, ((key_of lo, key_of hi), a))
+body_value (delegate lo hi l) = (5, ((key_of lo, key_of hi), l))
 
-abbrev pub datagramValue : Datagram → Of datagram
-datagramValue (message n a b) = (0, (n, (a, bodyValue b)))
-datagramValue (ack n) = (1, n)
+abbrev pub datagram_value : Datagram → Of datagram
+datagram_value (message n a b) = (0, (n, (a, body_value b)))
+datagram_value (ack n) = (1, n)
 
 -- ---- .. and back: the message that a value of the format stands for. A byte that no row has stands for nothing; any message will do
 
-abbrev pub boundOf : Option ℕ → Bound
-boundOf none = End
-boundOf (some k) = Key k
+abbrev pub bound_of : Option ℕ → Bound
+bound_of none = End
+bound_of (some k) = Key k
 
-abbrev pub bodyIs : (t : ℕ) → Of (fields t) → Body
-bodyIs zero k = get k
-bodyIs (suc zero) v = set v.0 v.1
-bodyIs (suc (suc zero)) v = reply v.0 v.1
-bodyIs (suc (suc (suc zero))) v = redirect v.0 v.1
-bodyIs (suc (suc (suc (suc zero)))) v = shard (boundOf v.0.0) (boundOf v.0.1) v.1
-bodyIs (suc (suc (suc (suc (suc zero))))) v = delegate (boundOf v.0.0) (boundOf v.0.1) v.1
-bodyIs (suc (suc (suc (suc (suc (suc t)))))) v = get v
+abbrev pub body_is : (t : ℕ) → Of (fields t) → Body
+body_is zero k = get k
+body_is (suc zero) v = set v.0 v.1
+body_is (suc (suc zero)) v = reply v.0 v.1
+body_is (suc (suc (suc zero))) v = redirect v.0 v.1
+body_is (suc (suc (suc (suc zero)))) v = shard (bound_of v.0.0) (bound_of v.0.1) v.1
+body_is (suc (suc (suc (suc (suc zero))))) v = delegate (bound_of v.0.0) (bound_of v.0.1) v.1
+body_is (suc (suc (suc (suc (suc (suc t)))))) v = get v
 
-abbrev pub datagramIs : (t : ℕ) → Of (parts t) → Datagram
-datagramIs zero v = message v.0 v.1.0 (bodyIs v.1.1.0 v.1.1.1)
-datagramIs (suc zero) n = ack n
-datagramIs (suc (suc t)) n = ack n
+abbrev pub datagram_is : (t : ℕ) → Of (parts t) → Datagram
+datagram_is zero v = message v.0 v.1.0 (body_is v.1.1.0 v.1.1.1)
+datagram_is (suc zero) n = ack n
+datagram_is (suc (suc t)) n = ack n
 
 -- ---- the bytes
 
 -- the bytes of a message
 abbrev pub written : Datagram → List ℕ
-written m = encode datagram (datagramValue m)
+written m = encode datagram (datagram_value m)
 
 -- a message that may be written: its numbers have 64 bits, its addresses are short enough, its list's keys rise and it is not too long
 abbrev pub Valid : Datagram → Type 0
-Valid m = Good datagram (datagramValue m)
+Valid m = Good datagram (datagram_value m)

@@ -6,7 +6,7 @@ use Prim.Native.Nat.{ℕ, suc, ◌≤◌, ◌<◌}
 use native.Mathlib.Omega.{arith}
 use lib.ListN.{length, get_or, set, length-set}
 use Rattle.hosts.specs.declared.State.{State}
-use Rattle.numbers.specs.Words.{words, placeWord, state_of}
+use Rattle.numbers.specs.Words.{words, place_word, state_of}
 
 -- the values are written from word i on
 abbrev pub put : List ℕ → ℕ → List ℕ → List ℕ
@@ -27,7 +27,7 @@ all k p = k.me ∷ k.hosts ∷ k.peers ∷ k.width ∷ k.size ∷ k.bounds ∷ k
 
 -- a list that is long enough is taken apart, so that writing and reading compute
 pub stored : (l : List ℕ) (k : State) (p : ℕ) → words ≤ length l
-    → (state_of (put l 0 (all k p)) ≡ k) × (get_or (put l 0 (all k p)) placeWord 0 ≡ p)
+    → (state_of (put l 0 (all k p)) ≡ k) × (get_or (put l 0 (all k p)) place_word 0 ≡ p)
 stored [] k p h = absurd (omega (arith, h))
 stored (x0 ∷ []) k p h = absurd (omega (arith, h))
 stored (x0 ∷ x1 ∷ []) k p h = absurd (omega (arith, h))

@@ -7,8 +7,8 @@ use Rattle.hosts.specs.declared.State.{State}
 abbrev pub words : ℕ
 words = 12
 
-abbrev pub placeWord : ℕ
-placeWord = 11
+abbrev pub place_word : ℕ
+place_word = 11
 
 abbrev pub state_of : List ℕ → State
 state_of n = record {

@@ -2,7 +2,7 @@
 #![tactic(auto)]
 
 ghost use Rattle.std.specs.Prelude.{◌≡◌, ◌≤◌, length, get_or};
-ghost use Rattle.numbers.specs.Words.{words, placeWord, state_of};
+ghost use Rattle.numbers.specs.Words.{words, place_word, state_of};
 
 use hosts::State;
 
@@ -48,7 +48,7 @@ pub fn load(numbers: &[u64]) -> State
 
 // Writes the numbers and the place of a step's datagram into the words, if there are enough.
 pub fn store(numbers: &mut [u64], k: State, place: u64)
-    ensures { words ≤ length numbers.old → (state_of numbers.new ≡ k) × (get_or numbers.new placeWord 0 ≡ place) }
+    ensures { words ≤ length numbers.old → (state_of numbers.new ≡ k) × (get_or numbers.new place_word 0 ≡ place) }
 {
     if numbers.len() < WORDS {
         return;

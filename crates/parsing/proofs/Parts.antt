@@ -10,7 +10,7 @@ use Rattle.format.specs.Format.{Of, encode}
 use Rattle.format.specs.Place.{Stands, Lacks}
 use Rattle.format.proofs.Reading.{only}
 use Rattle.message.specs.Message.{Datagram}
-use Rattle.message.specs.Table.{datagram, datagramValue, written, Valid}
+use Rattle.message.specs.Table.{datagram, datagram_value, written, Valid}
 
 -- what takes all the bytes is written as they are
 pub whole : {s : List ℕ} {v : Of datagram} {next : ℕ} → Stands datagram s 0 v next → length s ≤ next → encode datagram v ≡ s
@@ -19,10 +19,10 @@ whole {s} {v} {next} k h =
     sym (k.is ∙ ap (λ (n : ℕ). encode datagram v ++ drop n s) e ∙ ap (λ (l : List ℕ). encode datagram v ++ l) (drop-length s) ∙ append-nil (encode datagram v))
 
 pub none : {s : List ℕ} → Lacks datagram s 0 → (m : Datagram) → Valid m → written m ≡ s → ⊥
-none {s} k m g e = k.no (datagramValue m) g [] (sym e ∙ sym (append-nil (written m)))
+none {s} k m g e = k.no (datagram_value m) g [] (sym e ∙ sym (append-nil (written m)))
 
 -- bytes that a message leaves over are no other message's
 pub trailing : {s : List ℕ} {v : Of datagram} {next : ℕ} → Stands datagram s 0 v next → next < length s → (m : Datagram) → Valid m → written m ≡ s → ⊥
 trailing {s} {v} {next} k h m g e =
-    let u = only k (datagramValue m) g [] (sym e ∙ sym (append-nil (written m))) in
+    let u = only k (datagram_value m) g [] (sym e ∙ sym (append-nil (written m))) in
     omega (arith, ap length u.1, length-drop next s)

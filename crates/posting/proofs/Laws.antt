@@ -14,7 +14,7 @@ use Rattle.columns.proofs.Cases.{lt_or_ge, eq_or_ne}
 use Rattle.memory.specs.Bytes.{part, placed}
 use Rattle.memory.proofs.Parts.{length_placed, placed_in, placed_before, placed_after}
 use Rattle.delivery.specs.Post.{Post, last, next, posted}
-use Rattle.delivery.specs.Memory.{Holding, Keeps, Open, Standing, last_of, capacity, markAt, number_at, length_at, datagramAt}
+use Rattle.delivery.specs.Memory.{Holding, Keeps, Open, Standing, last_of, capacity, mark_at, number_at, length_at, datagram_at}
 use Rattle.delivery.proofs.Laws.{at_same, at_other}
 
 -- ---- one more message waits
@@ -138,7 +138,7 @@ module _ (places : List ℕ) (p m x len : ℕ) where
   taken_other : (k : ℕ) → (k ≡ p * 3 → ⊥) → (k ≡ p * 3 + 1 → ⊥) → (k ≡ p * 3 + 2 → ⊥) → get_or (taken places p m x len) k 0 ≡ get_or places k 0
   taken_other k a b c = get_or-set_other two (p * 3 + 2) k len 0 c ∙ get_or-set_other one (p * 3 + 1) k x 0 b ∙ get_or-set_other places (p * 3) k m 0 a
 
-  taken_mark : p < capacity places → markAt (taken places p m x len) p ≡ m
+  taken_mark : p < capacity places → mark_at (taken places p m x len) p ≡ m
   taken_mark h =
       get_or-set_other two (p * 3 + 2) (p * 3) len 0 (λ d. omega arith)
       ∙ get_or-set_other one (p * 3 + 1) (p * 3) x 0 (λ d. omega arith)
@@ -167,7 +167,7 @@ module _ (counts places mail : List ℕ) (size n : ℕ) (P : Post) (K : Keeps co
   fits = omega (arith, place_fits p (capacity places) size (length mail) O.within K.fits_mail, long, short)
 
   -- another place's words are as they were, and so is its datagram: places are a stride apart
-  mark_other : (q : ℕ) → (q ≡ p → ⊥) → markAt places' q ≡ markAt places q
+  mark_other : (q : ℕ) → (q ≡ p → ⊥) → mark_at places' q ≡ mark_at places q
   mark_other q e = taken_other places p (i + 1) x len (q * 3) (λ d. e (omega arith)) (λ d. omega arith) (λ d. omega arith)
 
   number_other : (q : ℕ) → (q ≡ p → ⊥) → number_at places' q ≡ number_at places q
@@ -176,7 +176,7 @@ module _ (counts places mail : List ℕ) (size n : ℕ) (P : Post) (K : Keeps co
   length_other : (q : ℕ) → (q ≡ p → ⊥) → length_at places' q ≡ length_at places q
   length_other q e = taken_other places p (i + 1) x len (q * 3 + 2) (λ d. omega arith) (λ d. omega arith) (λ d. e (omega arith))
 
-  datagram_other : (q : ℕ) → q < capacity places → 0 < markAt places q → (q ≡ p → ⊥) → datagramAt places' mail' size q ≡ datagramAt places mail size q
+  datagram_other : (q : ℕ) → q < capacity places → 0 < mark_at places q → (q ≡ p → ⊥) → datagram_at places' mail' size q ≡ datagram_at places mail size q
   datagram_other q h t e =
       ap (part mail' (q * size)) (length_other q e)
       ∙ ⊎_elim
@@ -186,7 +186,7 @@ module _ (counts places mail : List ℕ) (size n : ℕ) (P : Post) (K : Keeps co
       placed_after mail (p * size) bytes fits (q * size) (length_at places q) (omega (arith, place_fits p q size (q * size) g (omega arith), long, short)))
       (lt_or_ge q p)
 
-  datagram_same : datagramAt places' mail' size p ≡ bytes
+  datagram_same : datagram_at places' mail' size p ≡ bytes
   datagram_same = ap (part mail' (p * size)) (taken_length places p (i + 1) x len O.within ∙ long) ∙ placed_in mail (p * size) bytes fits
 
   pub keeps_posted : Keeps counts' places' mail' size n (posted i bytes P)
@@ -207,9 +207,9 @@ module _ (counts places mail : List ℕ) (size n : ℕ) (P : Post) (K : Keeps co
         (λ (e : q ≡ p). subst (λ (q : ℕ). length_at places' q ≤ size) (sym e) (omega (arith, taken_length places p (i + 1) x len O.within)))
         (λ e. omega (arith, length_other q e, K.short q (omega (arith, h, taken_long places p (i + 1) x len)) (omega (arith, t, mark_other q e))))
         (eq_or_ne q p);
-    holding = subst (λ (l : ℕ). Holding (l / 3) (markAt places') (number_at places') (datagramAt places' mail' size) n (posted i bytes P)) (sym (taken_long places p (i + 1) x len))
-        (holding_posted (capacity places) n i p bytes P (markAt places) (number_at places) (markAt places') (number_at places') (datagramAt places mail size)
-        (datagramAt places' mail' size) K.holding peer O.within O.free mark_other number_other datagram_other
+    holding = subst (λ (l : ℕ). Holding (l / 3) (mark_at places') (number_at places') (datagram_at places' mail' size) n (posted i bytes P)) (sym (taken_long places p (i + 1) x len))
+        (holding_posted (capacity places) n i p bytes P (mark_at places) (number_at places) (mark_at places') (number_at places') (datagram_at places mail size)
+        (datagram_at places' mail' size) K.holding peer O.within O.free mark_other number_other datagram_other
         (taken_mark places p (i + 1) x len O.within ∙ add-one i) (taken_number places p (i + 1) x len O.within ∙ new) datagram_same);
   }
 

@@ -9,7 +9,7 @@ use Prim.Native.Nat.{ℕ, ◌-◌, ◌<◌}
 use native.Mathlib.Omega.{arith}
 use lib.ListN.{length, take, drop}
 use lib.Dec.{ltb}
-use Rattle.limits.specs.Limits.{transfersLimit}
+use Rattle.limits.specs.Limits.{transfers_limit}
 use Rattle.format.specs.declared.Part.{Part}
 use Rattle.message.specs.Message.{Body, Datagram, message, ack}
 use Rattle.message.specs.declared.Parsed.{Parsed}
@@ -21,16 +21,16 @@ use Rattle.decoding.specs.Decode.{same}
 use Rattle.decoding.proofs.Laws.{answered, parse_reads}
 use Rattle.protocol.specs.State.{Host, Letter}
 use Rattle.protocol.specs.Delivery.{Step}
-use Rattle.protocol.specs.Process.{onBody, onLetter, process}
+use Rattle.protocol.specs.Process.{on_body, on_letter, process}
 use Rattle.hosts.specs.declared.State.{State}
 use Rattle.hosts.specs.declared.Done.{Done}
 use Rattle.hosts.specs.declared.Processed.TheVariants.{Idle}
 use Rattle.hosts.specs.Memory.{Memory}
-use Rattle.hosts.specs.Limits.{Needs, fitsRoom, fitsBody}
-use Rattle.hosts.specs.Keeps.{Core, limitsOf, RoomCases, Keeps}
+use Rattle.hosts.specs.Limits.{Needs, fits_room, fits_body}
+use Rattle.hosts.specs.Keeps.{Core, limits_of, RoomCases, Keeps}
 use Rattle.hosts.specs.Answers.{Heard}
 use Rattle.staying.specs.Answers.{unchanged}
-use Rattle.rows.specs.Answers.{stepFor, Leaves, AfterBody}
+use Rattle.rows.specs.Answers.{step_for, Leaves, AfterBody}
 use Rattle.processing.specs.Answers.{Processes, AfterProcess}
 
 -- is it a message, and with what body? (`d` where it is none)
@@ -39,24 +39,24 @@ is_some none = false
 is_some (some (message n a b)) = true
 is_some (some (ack n)) = false
 
-abbrev pub isMessage : Parsed → Bool
-isMessage (Message n a b) = true
-isMessage (Ack n) = false
-isMessage Invalid = false
+abbrev pub is_message : Parsed → Bool
+is_message (Message n a b) = true
+is_message (Ack n) = false
+is_message Invalid = false
 
-is_message : (s : List ℕ) (p : Parsed) → is_some (answered s p) ≡ isMessage p
-is_message s (Message n a b) = refl
-is_message s (Ack n) = refl
-is_message s Invalid = refl
+is_message_lem : (s : List ℕ) (p : Parsed) → is_some (answered s p) ≡ is_message p
+is_message_lem s (Message n a b) = refl
+is_message_lem s (Ack n) = refl
+is_message_lem s Invalid = refl
 
 -- what code takes of the room
 front : (k : State) (room : List ℕ) → take (k.len - 0) (drop 0 room) ≡ take k.len room
 front k room = let e : k.len - 0 ≡ k.len = omega arith in ap (λ (n : ℕ). take n room) e
 
-abbrev bodyFrom : Body → Option Datagram → Body
-bodyFrom d none = d
-bodyFrom d (some (message n a b)) = b
-bodyFrom d (some (ack n)) = d
+abbrev body_from : Body → Option Datagram → Body
+body_from d none = d
+body_from d (some (message n a b)) = b
+body_from d (some (ack n)) = d
 
 -- what a kept room says of the datagram in it
 in_room : (m : Memory) (k : State) (room : List ℕ) → 0 < k.len → (h : Host) → Keeps m k room h → (l : Letter) × (h.room ≡ some l) × RoomCases m k room h (some l)
@@ -75,8 +75,8 @@ module _ {m : Memory} {k : State} {room : List ℕ} {r : Done} where
   })
     where
       go : (h : Host) → Keeps m k room h → (o : Option Letter) → h.room ≡ o → RoomCases m k room h o
-          → Processes m k room Idle (onLetter (fitsRoom (length m.slots) h h.room) h h.room)
-      go h K none e R = subst (λ (o : Option Letter). Processes m k room Idle (onLetter (fitsRoom (length m.slots) h o) h o)) (sym e) (record { keeps = K; outcome = refl; sends = refl })
+          → Processes m k room Idle (on_letter (fits_room (length m.slots) h h.room) h h.room)
+      go h K none e R = subst (λ (o : Option Letter). Processes m k room Idle (on_letter (fits_room (length m.slots) h o) h o)) (sym e) (record { keeps = K; outcome = refl; sends = refl })
       go h K (some l) e R = absurd (omega (arith, z, R.0))
 
   -- memory keeps nothing where the room has no message
@@ -87,23 +87,23 @@ module _ {m : Memory} {k : State} {room : List ℕ} {r : Done} where
   too_long z n q = absent (λ h K. let R = in_room m k room z h K in omega (arith, n, R.2.1)) q
 
   -- bytes that are an Ack or no message are in no room
-  pub no_message : 0 < k.len → {p : Parsed} → AfterParse (take (k.len - 0) (drop 0 room)) p → isMessage p ≡ false → r ≡ unchanged k Idle → AfterProcess m k room r m
+  pub no_message : 0 < k.len → {p : Parsed} → AfterParse (take (k.len - 0) (drop 0 room)) p → is_message p ≡ false → r ≡ unchanged k Idle → AfterProcess m k room r m
   no_message z {p} A n q =
       let B = subst (λ (s : List ℕ). AfterParse s p) (front k room) A in
-      absent (λ h K. let R = in_room m k room z h K in false≢true (sym n ∙ sym (is_message (take k.len room) p) ∙ ap is_some (sym (parse_reads (take k.len room) p B) ∙ R.2.4))) q
+      absent (λ h K. let R = in_room m k room z h K in false≢true (sym n ∙ sym (is_message_lem (take k.len room) p) ∙ ap is_some (sym (parse_reads (take k.len room) p B) ∙ R.2.4))) q
 
 -- a message that stands in the room
 module _ (m m' : Memory) (k : State) (room : List ℕ) (n : ℕ) (a : Part) (b : BodyView) (r : Done) (z : 0 < k.len)
     (A : AfterParse (take k.len room) (Message n a b)) (B : AfterBody m k (take k.len room) b r m') where
   -- the letter is the message that was read
   body_is : (h : Host) (l : Letter) → RoomCases m k room h (some l) → body_of (take k.len room) b ≡ l.body
-  body_is h l R = ap (bodyFrom l.body) (sym (parse_reads (take k.len room) (Message n a b) A) ∙ R.4)
+  body_is h l R = ap (body_from l.body) (sym (parse_reads (take k.len room) (Message n a b) A) ∙ R.4)
 
   step_is : (h : Host) (l : Letter) → h.room ≡ some l → RoomCases m k room h (some l)
-      → stepFor m (take k.len room) b h l ≡ process (fitsRoom (length m.slots) h h.room) h
+      → step_for m (take k.len room) b h l ≡ process (fits_room (length m.slots) h h.room) h
   step_is h l e R =
-      ap (λ (x : Body). onBody (ltb h.transfers (transfersLimit - 2)) (fitsBody (length m.slots) h x) h l x) (body_is h l R)
-      ∙ ap (λ (o : Option Letter). onLetter (fitsRoom (length m.slots) h o) h o) (sym e)
+      ap (λ (x : Body). on_body (ltb h.transfers (transfers_limit - 2)) (fits_body (length m.slots) h x) h l x) (body_is h l R)
+      ∙ ap (λ (o : Option Letter). on_letter (fits_room (length m.slots) h o) h o) (sym e)
 
   -- the room after the step
   room_after : (h : Host) (K : Keeps m k room h) (t : Step) → Leaves m m' k r.state h t → Core m' r.state t.state → Keeps m' r.state room t.state
@@ -121,10 +121,10 @@ module _ (m m' : Memory) (k : State) (room : List ℕ) (n : ℕ) (a : Part) (b :
         let l = R.0 in
         let c = R.2 in
         let H : Heard m k l = record { from_in = c.2; from_is = c.3 } in
-        let N = subst (Needs (limitsOf m k room) h l) (sym (body_is h l c)) c.5 in
+        let N = subst (Needs (limits_of m k room) h l) (sym (body_is h l c)) c.5 in
         let D = B.is room h l K.core H A.is.3 N in
-        let P : Processes m' r.state room r.outcome (stepFor m (take k.len room) b h l) = record {
-          keeps = room_after h K (stepFor m (take k.len room) b h l) (B.leaves h l K.core) D.core;
+        let P : Processes m' r.state room r.outcome (step_for m (take k.len room) b h l) = record {
+          keeps = room_after h K (step_for m (take k.len room) b h l) (B.leaves h l K.core) D.core;
           outcome = D.outcome;
           sends = D.sends;
         } in
@@ -132,7 +132,7 @@ module _ (m m' : Memory) (k : State) (room : List ℕ) (n : ℕ) (a : Part) (b :
     same = λ h K e.
         let R = in_room m k room z h K in
         let l = R.0 in
-        kept h l R.1 (stepFor m (take k.len room) b h l) (ap (λ (t : Step). t.state) (step_is h l R.1 R.2) ∙ e) (B.leaves h l K.core);
+        kept h l R.1 (step_for m (take k.len room) b h l) (ap (λ (t : Step). t.state) (step_is h l R.1 R.2) ∙ e) (B.leaves h l K.core);
   }
     where
       kept : (h : Host) (l : Letter) → h.room ≡ some l → (t : Step) → t.state ≡ h → Leaves m m' k r.state h t → (m' ≡ m) × (r.state ≡ k)

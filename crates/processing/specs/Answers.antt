@@ -9,18 +9,18 @@ use Rattle.hosts.specs.declared.State.{State}
 use Rattle.hosts.specs.declared.Done.{Done}
 use Rattle.hosts.specs.declared.Processed.{Processed}
 use Rattle.hosts.specs.Memory.{Memory}
-use Rattle.hosts.specs.Limits.{fitsRoom}
+use Rattle.hosts.specs.Limits.{fits_room}
 use Rattle.hosts.specs.Keeps.{Keeps}
-use Rattle.hosts.specs.Answers.{outcomeOf, sendsOf}
+use Rattle.hosts.specs.Answers.{outcome_of, sends_of}
 
 -- memory keeps the host after the definition's step, and the outcome and the datagrams are the definition's
 pub record Processes (m : Memory) (k : State) (room : List ℕ) (r : Processed) (s : Step) : Type 0 where
   pub keeps : Keeps m k room s.state
-  pub outcome : outcomeOf r ≡ s.outcome
-  pub sends : sendsOf m k r ≡ s.sends
+  pub outcome : outcome_of r ≡ s.outcome
+  pub sends : sends_of m k r ≡ s.sends
 
 -- Whatever host memory keeps, this is its step; whether the value of a Set fits is told by the table's places. Where the definition's
 -- step changes nothing (there is no message, or the count of transfers is at its limit), all memory is as it was
 pub record AfterProcess (m : Memory) (k : State) (room : List ℕ) (r : Done) (m' : Memory) : Type 0 where
-  pub is : (h : Host) → Keeps m k room h → Processes m' r.state room r.outcome (process (fitsRoom (length m.slots) h h.room) h)
-  pub same : (h : Host) → Keeps m k room h → (process (fitsRoom (length m.slots) h h.room) h).state ≡ h → (m' ≡ m) × (r.state ≡ k)
+  pub is : (h : Host) → Keeps m k room h → Processes m' r.state room r.outcome (process (fits_room (length m.slots) h h.room) h)
+  pub same : (h : Host) → Keeps m k room h → (process (fits_room (length m.slots) h h.room) h).state ≡ h → (m' ≡ m) × (r.state ≡ k)

@@ -9,7 +9,7 @@ use native.Mathlib.Omega.{arith}
 use lib.ListN.{length}
 use lib.Dec.{ltb}
 use borrow.Author.Tests.{ltb-true}
-use Rattle.limits.specs.Limits.{bytesMax}
+use Rattle.limits.specs.Limits.{bytes_max}
 use Rattle.message.specs.Message.{Address}
 use Rattle.decoding.specs.Decode.{same}
 use Rattle.decoding.proofs.Decided.{same_true, same_refl}
@@ -60,10 +60,10 @@ among_snoc a b (c ∷ l) = go (same a c) (among_snoc a b l)
     go false e = e
 
 -- an address of a list of short ones is short
-pub short_among : (l : List Address) → short l ≡ true → (a : Address) → among a l ≡ true → length a < bytesMax
+pub short_among : (l : List Address) → short l ≡ true → (a : Address) → among a l ≡ true → length a < bytes_max
 short_among [] s a e = absurd (false≢true e)
 short_among (b ∷ l) s a e =
-    let u = (and-eq-true_iff (ltb (length b) bytesMax) (short l)).0 s in
+    let u = (and-eq-true_iff (ltb (length b) bytes_max) (short l)).0 s in
     ⊎_elim
-    (λ q. let v : length a ≡ length b = ap length (same_true a b q) in omega (arith, v, ltb-true (length b) bytesMax u.0))
+    (λ q. let v : length a ≡ length b = ap length (same_true a b q) in omega (arith, v, ltb-true (length b) bytes_max u.0))
     (λ q. short_among l u.1 a q) (either (same a b) (among a l) e)

@@ -115,8 +115,8 @@ above_setting k (some v) l a = above_filed (record { key = k; value = v }) 0 (wi
 
 -- ---- ranges
 
-pub look_inRange : (lo hi : Bound) (j : ℕ) (l : List Entry) → look j (in_range lo hi l) ≡ cond (holds lo hi j) (look j l) none
-look_inRange lo hi j l = look_kept (holds lo hi) j l
+pub look_in_range : (lo hi : Bound) (j : ℕ) (l : List Entry) → look j (in_range lo hi l) ≡ cond (holds lo hi j) (look j l) none
+look_in_range lo hi j l = look_kept (holds lo hi) j l
 
 pub look_outside : (lo hi : Bound) (j : ℕ) (l : List Entry) → look j (outside lo hi l) ≡ cond (holds lo hi j) none (look j l)
 look_outside lo hi j l = look_kept (λ i. not (holds lo hi i)) j l ∙ left_out (holds lo hi j) (look j l)

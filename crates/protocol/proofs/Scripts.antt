@@ -6,15 +6,15 @@ use mathlib.Core.List.{List, [], ◌∷◌, ◌++◌}
 use mathlib.Core.Option.{Option, none, some}
 use Prim.Native.Nat.{ℕ, zero, suc, ◌-◌}
 use Rattle.keys.specs.declared.Bound.TheVariants.{Key, End}
-use Rattle.limits.specs.Limits.{valueMax, entriesLimit, transfersLimit}
+use Rattle.limits.specs.Limits.{value_max, entries_limit, transfers_limit}
 use Rattle.format.specs.Number.{numbers, digits, worth}
 use Rattle.format.specs.Format.{Entry}
 use Rattle.message.specs.Message.{Address, Datagram, get, set, reply, redirect, shard, delegate, message, ack}
 use Rattle.message.specs.Table.{written}
 use Rattle.decoding.specs.Decode.{list_of, value_of}
-use Rattle.protocol.specs.Owners.{ownerOf}
+use Rattle.protocol.specs.Owners.{owner_of}
 use Rattle.protocol.specs.State.{Host, fresh, start, delivered, done, turned}
-use Rattle.protocol.specs.Delivery.{Packet, Outcome, Step, packet, ackTo, full, invalid, elsewhere, taken, unreceived, again, future, arrived, idle, stuck, replied, redirected, dropped, unnumbered, accepted, handed, resent, waits, posted}
+use Rattle.protocol.specs.Delivery.{Packet, Outcome, Step, packet, ack_to, full, invalid, elsewhere, taken, unreceived, again, future, arrived, idle, stuck, replied, redirected, dropped, unnumbered, accepted, handed, resent, waits, posted}
 use Rattle.protocol.specs.Receive.{receive}
 use Rattle.protocol.specs.Process.{process}
 use Rattle.protocol.specs.Retransmit.{retransmit}
@@ -95,16 +95,16 @@ unfolding storing outcomes step list_of value_of worth digits
 storing_outcomes = refl
 
 storing_sends : sends storing (fresh A hosts A)
-    ≡ ackTo C 1 ∷ packet 1 C (reply 5 (some x))
-    ∷ ackTo C 2 ∷ packet 1 B (delegate (Key 0) (Key 10) (record { key = 5; value = x } ∷ []))
-    ∷ ackTo C 3 ∷ packet 2 C (redirect 5 B)
-    ∷ ackTo C 4 ∷ packet 3 C (reply 10 none)
+    ≡ ack_to C 1 ∷ packet 1 C (reply 5 (some x))
+    ∷ ack_to C 2 ∷ packet 1 B (delegate (Key 0) (Key 10) (record { key = 5; value = x } ∷ []))
+    ∷ ack_to C 3 ∷ packet 2 C (redirect 5 B)
+    ∷ ack_to C 4 ∷ packet 3 C (reply 10 none)
     ∷ []
 unfolding storing sends step list_of value_of worth digits
 storing_sends = refl
 
 -- afterwards key 5 is B's and no record of it is left at A, the transfer has arrived, and two replies wait for the client
-storing_after : (ownerOf (after storing (fresh A hosts A)).owners 5 ≡ B) × (ownerOf (after storing (fresh A hosts A)).owners 10 ≡ A)
+storing_after : (owner_of (after storing (fresh A hosts A)).owners 5 ≡ B) × (owner_of (after storing (fresh A hosts A)).owners 10 ≡ A)
     × ((after storing (fresh A hosts A)).records ≡ []) × ((after storing (fresh A hosts A)).transfers ≡ 2)
     × ((after storing (fresh A hosts A)).waiting B ≡ []) × ((after storing (fresh A hosts A)).waiting C ≡ redirect 5 B ∷ reply 10 none ∷ [])
     × ((after storing (fresh A hosts A)).received C ≡ 4)
@@ -137,11 +137,11 @@ unfolding taking outcomes step list_of value_of worth digits
 taking_outcomes = refl
 
 taking_sends : sends taking (fresh A hosts B)
-    ≡ ackTo A 1 ∷ ackTo A 1 ∷ ackTo C 1 ∷ packet 1 C (reply 5 (some x)) ∷ packet 1 C (reply 5 (some x)) ∷ []
+    ≡ ack_to A 1 ∷ ack_to A 1 ∷ ack_to C 1 ∷ packet 1 C (reply 5 (some x)) ∷ packet 1 C (reply 5 (some x)) ∷ []
 unfolding taking sends step list_of value_of worth digits
 taking_sends = refl
 
-taking_after : (ownerOf (after taking (fresh A hosts B)).owners 5 ≡ B) × ((after taking (fresh A hosts B)).transfers ≡ 2)
+taking_after : (owner_of (after taking (fresh A hosts B)).owners 5 ≡ B) × ((after taking (fresh A hosts B)).transfers ≡ 2)
     × ((after taking (fresh A hosts B)).records ≡ record { key = 5; value = x } ∷ []) × ((after taking (fresh A hosts B)).peers ≡ A ∷ B ∷ C ∷ [])
 unfolding taking after step list_of value_of worth digits
 taking_after = (refl, refl, refl, refl)
@@ -155,7 +155,7 @@ zeros (suc n) = 0 ∷ zeros n
 
 dropping : List Event
 dropping =
-    bring C (message 1 A (set 5 (some (zeros (suc valueMax)))))
+    bring C (message 1 A (set 5 (some (zeros (suc value_max)))))
     ∷ work
     ∷ bring C (message 2 A (shard (Key 0) End A))
     ∷ work
@@ -178,7 +178,7 @@ dropping_outcomes = refl
 
 -- nothing was stored, moved or counted; the Ack from the future skips a number
 dropping_after : ((after dropping (fresh A hosts A)).records ≡ []) × ((after dropping (fresh A hosts A)).transfers ≡ 1)
-    × (ownerOf (after dropping (fresh A hosts A)).owners 5 ≡ A) × ((after dropping (fresh A hosts A)).acknowledged C ≡ 1)
+    × (owner_of (after dropping (fresh A hosts A)).owners 5 ≡ A) × ((after dropping (fresh A hosts A)).acknowledged C ≡ 1)
 unfolding dropping zeros after step list_of value_of worth digits
 dropping_after = (refl, refl, refl, refl)
 
@@ -200,13 +200,13 @@ stocked n = done (record { first = A; grants = [] }) (rows 0 n) 1 (fresh A hosts
 emptying : List Event
 emptying = bring C (message 1 A (shard (Key 0) End B)) ∷ work ∷ []
 
-filling_outcomes : (outcomes (filling entriesLimit) (fresh B hosts A) ≡ taken ∷ dropped ∷ [])
-    × (outcomes (filling (entriesLimit - 1)) (fresh B hosts A) ≡ taken ∷ accepted ∷ [])
+filling_outcomes : (outcomes (filling entries_limit) (fresh B hosts A) ≡ taken ∷ dropped ∷ [])
+    × (outcomes (filling (entries_limit - 1)) (fresh B hosts A) ≡ taken ∷ accepted ∷ [])
 unfolding filling rows outcomes step list_of value_of worth digits
 filling_outcomes = (refl, refl)
 
-emptying_outcomes : (outcomes emptying (stocked entriesLimit) ≡ taken ∷ dropped ∷ [])
-    × (outcomes emptying (stocked (entriesLimit - 1)) ≡ taken ∷ handed ∷ [])
+emptying_outcomes : (outcomes emptying (stocked entries_limit) ≡ taken ∷ dropped ∷ [])
+    × (outcomes emptying (stocked (entries_limit - 1)) ≡ taken ∷ handed ∷ [])
 unfolding emptying stocked rows outcomes step list_of value_of worth digits
 emptying_outcomes = (refl, refl)
 
@@ -228,13 +228,13 @@ late_outcomes : outcomes asking late ≡ taken ∷ unnumbered ∷ taken ∷ unnu
 unfolding asking late outcomes step list_of value_of worth digits
 late_outcomes = refl
 
-late_after : ((after asking late).records ≡ []) × ((after asking late).transfers ≡ 2) × (ownerOf (after asking late).owners 5 ≡ A)
+late_after : ((after asking late).records ≡ []) × ((after asking late).transfers ≡ 2) × (owner_of (after asking late).owners 5 ≡ A)
 unfolding asking late after step list_of value_of worth digits
 late_after = (refl, refl, refl)
 
 -- at the limit of transfers a Shard stays in the room, and nothing else is taken
 crowd : Host
-crowd = done (record { first = A; grants = [] }) [] (transfersLimit - 2) (fresh A hosts A)
+crowd = done (record { first = A; grants = [] }) [] (transfers_limit - 2) (fresh A hosts A)
 
 staying : List Event
 staying = bring C (message 1 A (shard (Key 0) End B)) ∷ work ∷ bring C (message 2 A (get 5)) ∷ work ∷ []

@@ -14,7 +14,7 @@ use Rattle.keys.proofs.Laws.{From, Under, holds_from, holds_true}
 use Rattle.message.specs.Message.{Address}
 use Rattle.decoding.specs.Decode.{same}
 use Rattle.decoding.proofs.Decided.{same_true, same_refl}
-use Rattle.protocol.specs.Owners.{Grant, Owners, newest, ownerOf, keyIn, edges, whole}
+use Rattle.protocol.specs.Owners.{Grant, Owners, newest, owner_of, key_in, edges, whole}
 use Rattle.protocol.proofs.Addresses.{neither}
 
 -- ---- where the owner can change
@@ -24,9 +24,9 @@ abbrev is_at : Bound → ℕ → Bool
 is_at (Key m) k = eqb m k
 is_at End k = false
 
-abbrev onEdge : List Grant → ℕ → Bool
-onEdge [] k = false
-onEdge (g ∷ l) k = is_at g.lo k || (is_at g.hi k || onEdge l k)
+abbrev on_edge : List Grant → ℕ → Bool
+on_edge [] k = false
+on_edge (g ∷ l) k = is_at g.lo k || (is_at g.hi k || on_edge l k)
 
 -- a key and the next lie on the same side of a bound that is not at the next
 below_step : (b : Bound) (k : ℕ) → is_at b (suc k) ≡ false → below (Key (suc k)) b ≡ below (Key k) b
@@ -40,39 +40,39 @@ below_step (Key m) k e = go (ltb k m) refl
 holds_step : (lo hi : Bound) (k : ℕ) → is_at lo (suc k) ≡ false → is_at hi (suc k) ≡ false → holds lo hi (suc k) ≡ holds lo hi k
 holds_step lo hi k p q = ap₂ (λ (x y : Bool). not x && y) (below_step lo k p) (below_step hi k q)
 
-newest_step : (first : Address) (l : List Grant) (k : ℕ) → onEdge l (suc k) ≡ false → newest first l (suc k) ≡ newest first l k
+newest_step : (first : Address) (l : List Grant) (k : ℕ) → on_edge l (suc k) ≡ false → newest first l (suc k) ≡ newest first l k
 newest_step first [] k e = refl
 newest_step first (g ∷ l) k e =
-    let u = neither (is_at g.lo (suc k)) (is_at g.hi (suc k) || onEdge l (suc k)) e in
-    let w = neither (is_at g.hi (suc k)) (onEdge l (suc k)) u.1 in
+    let u = neither (is_at g.lo (suc k)) (is_at g.hi (suc k) || on_edge l (suc k)) e in
+    let w = neither (is_at g.hi (suc k)) (on_edge l (suc k)) u.1 in
     ap₂ (λ (t : Bool) (x : Address). cond t g.to x) (holds_step g.lo g.hi k u.0 w.0) (newest_step first l k w.1)
 
 -- ---- what the test says at such a key
 
 module _ (lo hi : Bound) (a : Address) (o : Owners) where
-  key_owner : (b : Bound) (k : ℕ) → is_at b k ≡ true → keyIn lo hi b a o ≡ true → holds lo hi k ≡ true → ownerOf o k ≡ a
+  key_owner : (b : Bound) (k : ℕ) → is_at b k ≡ true → key_in lo hi b a o ≡ true → holds lo hi k ≡ true → owner_of o k ≡ a
   key_owner End k e t h = absurd (false≢true e)
   key_owner (Key m) k e t h =
       let q : m ≡ k = eqb-true m k e in
-      let t' : not (holds lo hi k) || same (ownerOf o k) a ≡ true = subst (λ (x : ℕ). not (holds lo hi x) || same (ownerOf o x) a ≡ true) q t in
-      same_true (ownerOf o k) a (subst (λ (x : Bool). not x || same (ownerOf o k) a ≡ true) h t')
+      let t' : not (holds lo hi k) || same (owner_of o k) a ≡ true = subst (λ (x : ℕ). not (holds lo hi x) || same (owner_of o x) a ≡ true) q t in
+      same_true (owner_of o k) a (subst (λ (x : Bool). not x || same (owner_of o k) a ≡ true) h t')
 
-  edge_owner : (l : List Grant) (k : ℕ) → onEdge l k ≡ true → edges lo hi l a o ≡ true → holds lo hi k ≡ true → ownerOf o k ≡ a
+  edge_owner : (l : List Grant) (k : ℕ) → on_edge l k ≡ true → edges lo hi l a o ≡ true → holds lo hi k ≡ true → owner_of o k ≡ a
   edge_owner [] k e t h = absurd (false≢true e)
   edge_owner (g ∷ l) k e t h =
-      let u = (and-eq-true_iff (keyIn lo hi g.lo a o) (keyIn lo hi g.hi a o && edges lo hi l a o)).0 t in
-      let w = (and-eq-true_iff (keyIn lo hi g.hi a o) (edges lo hi l a o)).0 u.1 in
+      let u = (and-eq-true_iff (key_in lo hi g.lo a o) (key_in lo hi g.hi a o && edges lo hi l a o)).0 t in
+      let w = (and-eq-true_iff (key_in lo hi g.hi a o) (edges lo hi l a o)).0 u.1 in
       first (is_at g.lo k) refl e u.0 (second (is_at g.hi k) refl w.0 (λ d. edge_owner l k d w.1 h))
     where
-      second : (t : Bool) → is_at g.hi k ≡ t → keyIn lo hi g.hi a o ≡ true → (onEdge l k ≡ true → ownerOf o k ≡ a)
-          → is_at g.hi k || onEdge l k ≡ true → ownerOf o k ≡ a
+      second : (t : Bool) → is_at g.hi k ≡ t → key_in lo hi g.hi a o ≡ true → (on_edge l k ≡ true → owner_of o k ≡ a)
+          → is_at g.hi k || on_edge l k ≡ true → owner_of o k ≡ a
       second true p q r d = key_owner g.hi k p q h
-      second false p q r d = r (subst (λ (x : Bool). x || onEdge l k ≡ true) p d)
+      second false p q r d = r (subst (λ (x : Bool). x || on_edge l k ≡ true) p d)
 
-      first : (t : Bool) → is_at g.lo k ≡ t → is_at g.lo k || (is_at g.hi k || onEdge l k) ≡ true → keyIn lo hi g.lo a o ≡ true
-          → (is_at g.hi k || onEdge l k ≡ true → ownerOf o k ≡ a) → ownerOf o k ≡ a
+      first : (t : Bool) → is_at g.lo k ≡ t → is_at g.lo k || (is_at g.hi k || on_edge l k) ≡ true → key_in lo hi g.lo a o ≡ true
+          → (is_at g.hi k || on_edge l k ≡ true → owner_of o k ≡ a) → owner_of o k ≡ a
       first true p d q r = key_owner g.lo k p q h
-      first false p d q r = r (subst (λ (x : Bool). x || (is_at g.hi k || onEdge l k) ≡ true) p d)
+      first false p d q r = r (subst (λ (x : Bool). x || (is_at g.hi k || on_edge l k) ≡ true) p d)
 
   -- the range's first key is its lower bound
   first_key : holds lo hi 0 ≡ true → is_at lo 0 ≡ true
@@ -94,39 +94,39 @@ module _ (lo hi : Bound) (a : Address) (o : Owners) where
       high (Key m) p = omega (arith, p)
       high End p = p
 
-  pub whole_all : whole lo hi a o ≡ true → (k : ℕ) → holds lo hi k ≡ true → ownerOf o k ≡ a
+  pub whole_all : whole lo hi a o ≡ true → (k : ℕ) → holds lo hi k ≡ true → owner_of o k ≡ a
   whole_all t k h = go k h
     where
-      u : (keyIn lo hi lo a o ≡ true) × (edges lo hi o.grants a o ≡ true)
-      u = (and-eq-true_iff (keyIn lo hi lo a o) (edges lo hi o.grants a o)).0 t
+      u : (key_in lo hi lo a o ≡ true) × (edges lo hi o.grants a o ≡ true)
+      u = (and-eq-true_iff (key_in lo hi lo a o) (edges lo hi o.grants a o)).0 t
 
-      inner : (k : ℕ) (e : Bool) → onEdge o.grants (suc k) ≡ e → holds lo hi (suc k) ≡ true → ownerOf o k ≡ a → ownerOf o (suc k) ≡ a
+      inner : (k : ℕ) (e : Bool) → on_edge o.grants (suc k) ≡ e → holds lo hi (suc k) ≡ true → owner_of o k ≡ a → owner_of o (suc k) ≡ a
       inner k true e h before = edge_owner o.grants (suc k) e u.1 h
       inner k false e h before = newest_step o.first o.grants k e ∙ before
 
-      outer : (k : ℕ) (e : Bool) → is_at lo (suc k) ≡ e → holds lo hi (suc k) ≡ true → (holds lo hi k ≡ true → ownerOf o k ≡ a) → ownerOf o (suc k) ≡ a
+      outer : (k : ℕ) (e : Bool) → is_at lo (suc k) ≡ e → holds lo hi (suc k) ≡ true → (holds lo hi k ≡ true → owner_of o k ≡ a) → owner_of o (suc k) ≡ a
       outer k true e h before = key_owner lo (suc k) e u.0 h
-      outer k false e h before = inner k (onEdge o.grants (suc k)) refl h (before (before_key k h e))
+      outer k false e h before = inner k (on_edge o.grants (suc k)) refl h (before (before_key k h e))
 
-      go : (k : ℕ) → holds lo hi k ≡ true → ownerOf o k ≡ a
+      go : (k : ℕ) → holds lo hi k ≡ true → owner_of o k ≡ a
       go zero h = key_owner lo 0 (first_key h) u.0 h
       go (suc k) h = outer k (is_at lo (suc k)) refl h (go k)
 
   -- ---- and the other way round
 
-  key_in : ((k : ℕ) → holds lo hi k ≡ true → ownerOf o k ≡ a) → (b : Bound) → keyIn lo hi b a o ≡ true
-  key_in all End = refl
-  key_in all (Key k) = go (holds lo hi k) refl
+  key_in_lem : ((k : ℕ) → holds lo hi k ≡ true → owner_of o k ≡ a) → (b : Bound) → key_in lo hi b a o ≡ true
+  key_in_lem all End = refl
+  key_in_lem all (Key k) = go (holds lo hi k) refl
     where
-      go : (t : Bool) → holds lo hi k ≡ t → not (holds lo hi k) || same (ownerOf o k) a ≡ true
+      go : (t : Bool) → holds lo hi k ≡ t → not (holds lo hi k) || same (owner_of o k) a ≡ true
       go true e = rw (e, all k e) (same_refl a)
       go false e = rw e refl
 
-  pub all_whole : ((k : ℕ) → holds lo hi k ≡ true → ownerOf o k ≡ a) → whole lo hi a o ≡ true
-  all_whole all = (and-eq-true_iff (keyIn lo hi lo a o) (edges lo hi o.grants a o)).1 (key_in all lo, go o.grants)
+  pub all_whole : ((k : ℕ) → holds lo hi k ≡ true → owner_of o k ≡ a) → whole lo hi a o ≡ true
+  all_whole all = (and-eq-true_iff (key_in lo hi lo a o) (edges lo hi o.grants a o)).1 (key_in_lem all lo, go o.grants)
     where
       go : (l : List Grant) → edges lo hi l a o ≡ true
       go [] = refl
       go (g ∷ l) =
-          (and-eq-true_iff (keyIn lo hi g.lo a o) (keyIn lo hi g.hi a o && edges lo hi l a o)).1
-          (key_in all g.lo, (and-eq-true_iff (keyIn lo hi g.hi a o) (edges lo hi l a o)).1 (key_in all g.hi, go l))
+          (and-eq-true_iff (key_in lo hi g.lo a o) (key_in lo hi g.hi a o && edges lo hi l a o)).1
+          (key_in_lem all g.lo, (and-eq-true_iff (key_in lo hi g.hi a o) (edges lo hi l a o)).1 (key_in_lem all g.hi, go l))

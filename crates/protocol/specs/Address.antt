@@ -10,8 +10,8 @@ among a [] = false
 among a (b ∷ l) = same a b || among a l
 
 -- the list with the address, at its end if it was not there
-abbrev pub withAddress : Address → List Address → List Address
-withAddress a l = cond (among a l) l (l ++ (a ∷ []))
+abbrev pub with_address : Address → List Address → List Address
+with_address a l = cond (among a l) l (l ++ (a ∷ []))
 
 -- f with v at the address a
 abbrev pub at : {A : Type 0} → Address → A → (Address → A) → Address → A

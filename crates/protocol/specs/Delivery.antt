@@ -80,8 +80,8 @@ numbered h a = ltb (next h a) numbers
 
 -- ---- acknowledging
 
-abbrev pub ackTo : Address → ℕ → Packet
-ackTo a n = record { to = a; bytes = written (ack n) }
+abbrev pub ack_to : Address → ℕ → Packet
+ack_to a n = record { to = a; bytes = written (ack n) }
 
 -- the messages up to n have arrived at a. An Ack from the future drops all that wait and skips numbers (change request C6)
 abbrev pub confirmed : Address → ℕ → Host → Host
@@ -89,6 +89,6 @@ confirmed a n h =
     delivered (at a n h.acknowledged) (at a (drop (n - h.acknowledged a) (h.waiting a)) h.waiting) h
 
 -- the messages that wait for a, each with its number
-abbrev pub numberedFrom : ℕ → Address → List Body → List Packet
-numberedFrom n a [] = []
-numberedFrom n a (b ∷ l) = packet n a b ∷ numberedFrom (suc n) a l
+abbrev pub numbered_from : ℕ → Address → List Body → List Packet
+numbered_from n a [] = []
+numbered_from n a (b ∷ l) = packet n a b ∷ numbered_from (suc n) a l

@@ -23,8 +23,8 @@ newest first [] k = first
 newest first (g ∷ l) k = cond (holds g.lo g.hi k) g.to (newest first l k)
 
 -- the key's owner
-abbrev pub ownerOf : Owners → ℕ → Address
-ownerOf o k = newest o.first o.grants k
+abbrev pub owner_of : Owners → ℕ → Address
+owner_of o k = newest o.first o.grants k
 
 -- the range given to the host: exactly the keys in it change
 abbrev pub giving : Bound → Bound → Address → Owners → Owners
@@ -34,13 +34,13 @@ giving lo hi a o = record { first = o.first; grants = record { lo = lo; hi = hi;
 
 -- Where the owner can change within a range: at its start, and where a range that was given away starts or ends. If the owner is the same
 -- host at all these keys, it is at every key of the range (law `whole_all`)
-abbrev pub keyIn : Bound → Bound → Bound → Address → Owners → Bool
-keyIn lo hi End a o = true
-keyIn lo hi (Key k) a o = not (holds lo hi k) || same (ownerOf o k) a
+abbrev pub key_in : Bound → Bound → Bound → Address → Owners → Bool
+key_in lo hi End a o = true
+key_in lo hi (Key k) a o = not (holds lo hi k) || same (owner_of o k) a
 
 abbrev pub edges : Bound → Bound → List Grant → Address → Owners → Bool
 edges lo hi [] a o = true
-edges lo hi (g ∷ l) a o = keyIn lo hi g.lo a o && (keyIn lo hi g.hi a o && edges lo hi l a o)
+edges lo hi (g ∷ l) a o = key_in lo hi g.lo a o && (key_in lo hi g.hi a o && edges lo hi l a o)
 
 abbrev pub whole : Bound → Bound → Address → Owners → Bool
-whole lo hi a o = keyIn lo hi lo a o && edges lo hi o.grants a o
+whole lo hi a o = key_in lo hi lo a o && edges lo hi o.grants a o

@@ -2,7 +2,7 @@
 -- Assumes nothing.
 use Rattle.std.specs.Prelude.{Bool, true, false, cond, ◌&&◌, not, List, [], ◌∷◌, ◌++◌, ℕ, length, ltb}
 use Rattle.std.proofs.Math.Option.{Option, none, some}
-use Rattle.limits.specs.Limits.{bytesMax}
+use Rattle.limits.specs.Limits.{bytes_max}
 use Rattle.format.specs.Format.{Entry}
 use Rattle.message.specs.Message.{Address, Body}
 use Rattle.protocol.specs.Address.{among}
@@ -40,7 +40,7 @@ different (a ∷ l) = not (among a l) && different l
 
 abbrev pub short : List Address → Bool
 short [] = true
-short (a ∷ l) = ltb (length a) bytesMax && short l
+short (a ∷ l) = ltb (length a) bytes_max && short l
 
 abbrev pub fresh : Address → List Address → Address → Host
 fresh first hosts me = record {

@@ -3,7 +3,7 @@
 -- Assumes nothing.
 use Rattle.std.specs.Prelude.{Bool, true, false, List, ℕ, zero, suc, ◌+◌, ◌*◌, ◌%◌, eqb}
 use Rattle.std.proofs.Math.Option.{Option, none, some}
-use Rattle.limits.specs.Limits.{resendEvery}
+use Rattle.limits.specs.Limits.{resend_every}
 use Rattle.message.specs.Message.{Address}
 use Rattle.protocol.specs.State.{Host, turned}
 use Rattle.protocol.specs.Delivery.{Step, still, waits}
@@ -13,7 +13,7 @@ use Rattle.protocol.specs.Retransmit.{retransmit}
 
 -- the turns until all begins anew
 abbrev pub round : ℕ
-round = 3 * resendEvery
+round = 3 * resend_every
 
 -- whose turn it is: 0, 1 or 2
 abbrev pub kind : Host → ℕ

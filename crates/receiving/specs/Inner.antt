@@ -5,6 +5,6 @@ use Rattle.incoming.specs.declared.Received.{Received}
 use Rattle.incoming.specs.declared.Received.TheVariants.{Arrived, Stale}
 
 -- what became of an Ack
-abbrev pub ackOutcome : Bool → Received
-ackOutcome true = Arrived
-ackOutcome false = Stale
+abbrev pub ack_outcome_of : Bool → Received
+ack_outcome_of true = Arrived
+ack_outcome_of false = Stale

@@ -5,7 +5,7 @@
 ghost use Rattle.std.specs.Prelude.{◌≡◌, List, ℕ};
 ghost use Rattle.hosts.specs.Memory.{memory};
 ghost use Rattle.receiving.specs.Answers.{AfterReceive};
-ghost use Rattle.receiving.specs.Inner.{ackOutcome};
+ghost use Rattle.receiving.specs.Inner.{ack_outcome_of};
 
 use format::WIDTH;
 use hosts::State;
@@ -54,7 +54,7 @@ pub fn receive(
 
 // What became of an Ack, by whether it counts.
 fn ack_outcome(counted: bool) -> Received
-    ensures { result ≡ ackOutcome counted }
+    ensures { result ≡ ack_outcome_of counted }
 {
     if counted {
         return Received::Arrived;

@@ -23,7 +23,7 @@ use native.Mathlib.Omega.{arith}
 use lib.ListN.{length, get_or, take, drop, length-take}
 use Rattle.keys.specs.declared.Bound.{Bound}
 use Rattle.keys.specs.Bound.{holds}
-use Rattle.limits.specs.Limits.{valueMax}
+use Rattle.limits.specs.Limits.{value_max}
 use Rattle.records.specs.Table.{Value, Table, removed, within, replaced, Listed, Size}
 use Rattle.records.specs.Memory.{value_at, Keeps}
 use Rattle.records.proofs.Tables.{dropped_true, dropped_false, only_true, only_false, listed_at, listed_cong}
@@ -78,9 +78,9 @@ module _ (keys slots lens values : List ℕ) (n : ℕ) (T : Table) (K : Keeps ke
         (λ i q. refl) (λ i q. refl) e K.listed;
   }
 
-  pub keeps_short : (k : ℕ) (v : Value) → T k ≡ some v → length v ≤ valueMax
+  pub keeps_short : (k : ℕ) (v : Value) → T k ≡ some v → length v ≤ value_max
   keeps_short k v e =
       let w = listed_at n (λ i. get_or keys i 0) (value_at slots lens values) T K.listed k v e in
       let s : value_at slots lens values w.0 ≡ v = some-injective _ _ (sym (K.listed.has w.0 w.1) ∙ ap T w.2 ∙ e) in
       omega
-      (arith, ap length s, length-take (get_or lens (get_or slots w.0 0) 0) (drop (get_or slots w.0 0 * valueMax) values), K.short w.0 w.1)
+      (arith, ap length s, length-take (get_or lens (get_or slots w.0 0) 0) (drop (get_or slots w.0 0 * value_max) values), K.short w.0 w.1)

@@ -12,7 +12,7 @@ use lib.Dec.{eqb, ltb}
 use lib.ListN.{length, get_or, set, take, drop, length-set}
 use lib.Seq.{get_or-set_same, get_or-set_other}
 use borrow.Author.Tests.{eq-eqb, ne_eqb, lt-ltb, le-ltb}
-use Rattle.limits.specs.Limits.{valueMax}
+use Rattle.limits.specs.Limits.{value_max}
 use Rattle.columns.specs.Column.{inserted, without, Splits}
 use Rattle.columns.proofs.Cases.{lt_or_ge, eq_or_ne}
 use Rattle.columns.proofs.Columns.{length_inserted, inserted_before, inserted_at, inserted_after, inserted_past, length_without, cut_before, cut_after}
@@ -89,22 +89,22 @@ module _ (slots : List ℕ) (n p : ℕ) (S : Slots slots) (nl : n < length slots
 
 -- ---- a value written into slot s
 
-module _ (lens values : List ℕ) (s : ℕ) (v : Value) (sl : s < length lens) (vl : s * valueMax + valueMax ≤ length values) (short : length v ≤ valueMax)
+module _ (lens values : List ℕ) (s : ℕ) (v : Value) (sl : s < length lens) (vl : s * value_max + value_max ≤ length values) (short : length v ≤ value_max)
   where
-    whole : s * valueMax + length v ≤ length values
+    whole : s * value_max + length v ≤ length values
     whole = omega arith
 
-    pub slot_same : in_slot (set lens s (length v)) (placed values (s * valueMax) v) s ≡ v
+    pub slot_same : in_slot (set lens s (length v)) (placed values (s * value_max) v) s ≡ v
     slot_same =
-        ap (λ (t : ℕ). part (placed values (s * valueMax) v) (s * valueMax) t) (get_or-set_same lens s (length v) 0 sl)
-        ∙ placed_in values (s * valueMax) v whole
+        ap (λ (t : ℕ). part (placed values (s * value_max) v) (s * value_max) t) (get_or-set_same lens s (length v) 0 sl)
+        ∙ placed_in values (s * value_max) v whole
 
-    pub slot_other : (t : ℕ) → (t ≡ s → ⊥) → get_or lens t 0 ≤ valueMax → in_slot (set lens s (length v)) (placed values (s * valueMax) v) t ≡ in_slot lens values t
+    pub slot_other : (t : ℕ) → (t ≡ s → ⊥) → get_or lens t 0 ≤ value_max → in_slot (set lens s (length v)) (placed values (s * value_max) v) t ≡ in_slot lens values t
     slot_other t h b =
-        ap (λ (x : ℕ). part (placed values (s * valueMax) v) (t * valueMax) x) (get_or-set_other lens s t (length v) 0 h)
+        ap (λ (x : ℕ). part (placed values (s * value_max) v) (t * value_max) x) (get_or-set_other lens s t (length v) 0 h)
         ∙ ⊎_elim
-        (λ w. placed_before values (s * valueMax) v whole (t * valueMax) (get_or lens t 0) (omega arith))
-        (λ w. placed_after values (s * valueMax) v whole (t * valueMax) (get_or lens t 0) (let u : s < t = omega (arith, h) in omega arith))
+        (λ w. placed_before values (s * value_max) v whole (t * value_max) (get_or lens t 0) (omega arith))
+        (λ w. placed_after values (s * value_max) v whole (t * value_max) (get_or lens t 0) (let u : s < t = omega (arith, h) in omega arith))
         (lt_or_ge t s)
 
 -- ---- memory that keeps a table
@@ -115,7 +115,7 @@ pub slot_lens : (keys slots lens values : List ℕ) (n : ℕ) (T : Table) → Ke
 slot_lens keys slots lens values n T K i q = omega (arith, K.slotted.below i q, K.shape.fits_lens)
 
 pub slot_bytes : (keys slots lens values : List ℕ) (n : ℕ) (T : Table) → Keeps keys slots lens values n T → (i : ℕ) → i < length slots
-    → get_or slots i 0 * valueMax + valueMax ≤ length values
+    → get_or slots i 0 * value_max + value_max ≤ length values
 slot_bytes keys slots lens values n T K i q = omega (arith, K.slotted.below i q, K.shape.fits_values)
 
 pub place_room : (keys slots lens values : List ℕ) (n : ℕ) (T : Table) → Keeps keys slots lens values n T → (i : ℕ) → i < length slots
@@ -131,19 +131,19 @@ pub in_keys : (keys slots lens values : List ℕ) (n : ℕ) (T : Table) → Keep
 in_keys keys slots lens values n T K = omega (arith, K.shape.count, K.shape.fits_keys)
 
 module _ (keys slots lens values : List ℕ) (n : ℕ) (T : Table) (K : Keeps keys slots lens values n T) (key : ℕ) (v : Value)
-    (short : length v ≤ valueMax) (q : ℕ) (ql : q < length slots)
+    (short : length v ≤ value_max) (q : ℕ) (ql : q < length slots)
   where
     -- the value is written into the slot of place q
     lens' : List ℕ
     lens' = set lens (get_or slots q 0) (length v)
 
     values' : List ℕ
-    values' = placed values (get_or slots q 0 * valueMax) v
+    values' = placed values (get_or slots q 0 * value_max) v
 
     in_lens : get_or slots q 0 < length lens
     in_lens = slot_lens keys slots lens values n T K q ql
 
-    in_values : get_or slots q 0 * valueMax + valueMax ≤ length values
+    in_values : get_or slots q 0 * value_max + value_max ≤ length values
     in_values = slot_bytes keys slots lens values n T K q ql
 
     same_lens : length lens' ≡ length lens
@@ -152,7 +152,7 @@ module _ (keys slots lens values : List ℕ) (n : ℕ) (T : Table) (K : Keeps ke
 
     same_values : length values' ≡ length values
     unfolding values'
-    same_values = let w : get_or slots q 0 * valueMax + length v ≤ length values = omega (arith, in_values) in length_placed values (get_or slots q 0 * valueMax) v w
+    same_values = let w : get_or slots q 0 * value_max + length v ≤ length values = omega (arith, in_values) in length_placed values (get_or slots q 0 * value_max) v w
 
     here : in_slot lens' values' (get_or slots q 0) ≡ v
     unfolding lens' values'
@@ -165,17 +165,17 @@ module _ (keys slots lens values : List ℕ) (n : ℕ) (T : Table) (K : Keeps ke
     unfolding lens' values'
     there x a h = slot_other lens values (get_or slots q 0) v in_lens in_values short (get_or slots x 0) (apart x a h) (K.short x a)
 
-    here_short : get_or lens' (get_or slots q 0) 0 ≤ valueMax
+    here_short : get_or lens' (get_or slots q 0) 0 ≤ value_max
     unfolding lens'
     here_short = omega (arith, get_or-set_same lens (get_or slots q 0) (length v) 0 in_lens)
 
-    there_short : (x : ℕ) → x < n → (x ≡ q → ⊥) → get_or lens' (get_or slots x 0) 0 ≤ valueMax
+    there_short : (x : ℕ) → x < n → (x ≡ q → ⊥) → get_or lens' (get_or slots x 0) 0 ≤ value_max
     unfolding lens'
     there_short x a h = omega (arith, get_or-set_other lens (get_or slots q 0) (get_or slots x 0) (length v) 0 (apart x a h), K.short x a)
 
     -- the entry at place q has the key: its value is overwritten
     pub keeps_overwrite : q < n → get_or keys q 0 ≡ key
-        → Keeps keys slots (set lens (get_or slots q 0) (length v)) (placed values (get_or slots q 0 * valueMax) v) n (put key (some v) T)
+        → Keeps keys slots (set lens (get_or slots q 0) (length v)) (placed values (get_or slots q 0 * value_max) v) n (put key (some v) T)
     unfolding lens' values'
     keeps_overwrite qn e = record {
       shape = record {
@@ -191,7 +191,7 @@ module _ (keys slots lens values : List ℕ) (n : ℕ) (T : Table) (K : Keeps ke
 
 -- a new key before place p, its value in the first free slot
 module _ (keys slots lens values : List ℕ) (n : ℕ) (T : Table) (K : Keeps keys slots lens values n T) (key : ℕ) (v : Value)
-    (short : length v ≤ valueMax) (p : ℕ) (nl : n < length slots) (P : Splits keys n key p) (new : (x : ℕ) → x < n → get_or keys x 0 ≡ key → ⊥)
+    (short : length v ≤ value_max) (p : ℕ) (nl : n < length slots) (P : Splits keys n key p) (new : (x : ℕ) → x < n → get_or keys x 0 ≡ key → ⊥)
   where
     pn : p ≤ n
     pn = P.within
@@ -216,7 +216,7 @@ module _ (keys slots lens values : List ℕ) (n : ℕ) (T : Table) (K : Keeps ke
 
     -- the value's length, wherever an entry has gone
     Ok : ℕ → Type 0
-    Ok s = get_or next_lens s 0 ≤ valueMax
+    Ok s = get_or next_lens s 0 ≤ value_max
 
     all_short : (i : ℕ) → i < suc n → Ok (get_or slots' i 0)
     unfolding Ok slots' next_lens
@@ -234,7 +234,7 @@ module _ (keys slots lens values : List ℕ) (n : ℕ) (T : Table) (K : Keeps ke
         (lt_or_ge i p)
 
     pub keeps_add : Keeps (inserted keys n p key) (inserted slots n p (get_or slots n 0)) (set lens (get_or slots n 0) (length v))
-        (placed values (get_or slots n 0 * valueMax) v) (suc n) (put key (some v) T)
+        (placed values (get_or slots n 0 * value_max) v) (suc n) (put key (some v) T)
     unfolding slots' next_lens next_values Ok
     keeps_add =
         let ls : length (inserted slots n p (get_or slots n 0)) ≡ length slots = length_inserted slots n p (get_or slots n 0) pn nl in
@@ -268,7 +268,7 @@ module _ (keys slots lens values : List ℕ) (n : ℕ) (T : Table) (K : Keeps ke
     (slots' : List ℕ) (long : length slots' ≡ length slots) (S : Slots slots')
     (s_before : (x : ℕ) → x < i → get_or slots' x 0 ≡ get_or slots x 0) (s-after : (y : ℕ) → j + y < n → get_or slots' (i + y) 0 ≡ get_or slots (j + y) 0)
   where
-    left_short : (x : ℕ) → x < n - (j - i) → get_or lens (get_or slots' x 0) 0 ≤ valueMax
+    left_short : (x : ℕ) → x < n - (j - i) → get_or lens (get_or slots' x 0) 0 ≤ value_max
     left_short x a =
         ⊎_elim
         (λ w. rw (s_before x w) (K.short x (omega arith)))

@@ -21,11 +21,11 @@ pub record Owned (m : Memory) (k : State) (p x key owner : ℕ) (h : Host) (l : 
   pub picked : Picked m k p x h
   pub owner_is : (C : Core m k h) → owner ≡ C.f key
 
-pub record AfterRefer (nameLens names counts places mail : List ℕ) (k : State) (p x key owner : ℕ) (r : Done) (counts' places' mail' : List ℕ)
+pub record AfterRefer (name_lens names counts places mail : List ℕ) (k : State) (p x key owner : ℕ) (r : Done) (counts' places' mail' : List ℕ)
     : Type 0 where
   pub is : (lows owners keys slots lens values : List ℕ)
-      → AfterRow (memory lows owners keys slots lens values nameLens names counts places mail) k
-      (Owned (memory lows owners keys slots lens values nameLens names counts places mail) k p x key owner)
+      → AfterRow (memory lows owners keys slots lens values name_lens names counts places mail) k
+      (Owned (memory lows owners keys slots lens values name_lens names counts places mail) k p x key owner)
       (λ h l. redirecting h l key)
       r
-      (memory lows owners keys slots lens values nameLens names counts' places' mail')
+      (memory lows owners keys slots lens values name_lens names counts' places' mail')

@@ -10,12 +10,12 @@ use lib.ListN.{length, take, get_or, set, length-append, length-map}
 use lib.Seq.{take-suc, take-suc-set, get_or-set_same, get_or-set_other, length-take-le}
 use borrow.Author.Count.{below_more}
 use Rattle.delivery.specs.Post.{Post, total}
-use Rattle.delivery.specs.Memory.{capacity, markAt, number_at, datagramAt, Keeps, Standing}
+use Rattle.delivery.specs.Memory.{capacity, mark_at, number_at, datagram_at, Keeps, Standing}
 use Rattle.delivery.proofs.Counting.{keeps_fits}
 use Rattle.resending.specs.declared.Found.{Found}
 use Rattle.resending.specs.declared.Listed.{Listed}
 use Rattle.resending.specs.declared.Listed.TheVariants.{NoRoom}
-use Rattle.resending.specs.Answers.{Letter, letterAt, letterTo, lettersTo, letters, named, Within, AfterFind, AfterPeer, AfterAll}
+use Rattle.resending.specs.Answers.{Letter, letter_at, letter_to, letters_to, letters, named, Within, AfterFind, AfterPeer, AfterAll}
 
 -- ---- an answer that is known
 
@@ -35,15 +35,15 @@ all_as {counts} {places} {n} {out} {out' = out'} e A = subst (λ r. AfterAll cou
 module _ {counts places mail : List ℕ} {size n : ℕ} {P : Post} (K : Keeps counts places mail size n P) {peer x j : ℕ} (h : peer < n)
     (q : j < length (P.waiting peer)) (e : x ≡ suc (P.acknowledged peer + j)) where
   -- the place with its peer and number is its place
-  pub stands : {p : ℕ} → p < capacity places → markAt places p ≡ suc peer → number_at places p ≡ x
+  pub stands : {p : ℕ} → p < capacity places → mark_at places p ≡ suc peer → number_at places p ≡ x
       → Standing places mail size p peer x (get_or (P.waiting peer) j [])
   stands {p} w m z =
       let s = K.holding.here peer j h q in
       let same : s.0 ≡ p = K.holding.apart s.0 p s.1 w (omega (arith, s.2)) (s.2 ∙ sym m) (s.3 ∙ sym e ∙ sym z) in
-      record { within = w; mark = m; number = z; is = ap (datagramAt places mail size) (sym same) ∙ s.4 }
+      record { within = w; mark = m; number = z; is = ap (datagram_at places mail size) (sym same) ∙ s.4 }
 
   -- there is one
-  pub somewhere : ((p : ℕ) → p < capacity places → number_at places p ≡ x → markAt places p ≡ suc peer → ⊥) → ⊥
+  pub somewhere : ((p : ℕ) → p < capacity places → number_at places p ≡ x → mark_at places p ≡ suc peer → ⊥) → ⊥
   somewhere f =
       let s = K.holding.here peer j h q in
       f s.0 s.1 (s.3 ∙ sym e) s.2
@@ -60,27 +60,27 @@ within_more places out at p h w f =
 length_letters : (n : ℕ) (P : Post) → length (letters n P) ≡ total n P
 length_letters zero P = refl
 length_letters (suc n) P =
-    omega (arith, length-append (letters n P) (lettersTo P n), length-map (P.waiting n) (letterTo n), length_letters n P)
+    omega (arith, length-append (letters n P) (letters_to P n), length-map (P.waiting n) (letter_to n), length_letters n P)
 
 module _ (places mail out : List ℕ) (size at : ℕ) where
   -- one more letter
   pub letter_more : (p i x j : ℕ) (front : List Letter) (l : List (List ℕ)) → at < length out → j < length l
-      → Standing places mail size p i x (get_or l j []) → named places mail size at out ≡ front ++ map (letterTo i) (take j l)
-      → named places mail size (at + 1) (set out at p) ≡ front ++ map (letterTo i) (take (suc j) l)
+      → Standing places mail size p i x (get_or l j []) → named places mail size at out ≡ front ++ map (letter_to i) (take j l)
+      → named places mail size (at + 1) (set out at p) ≡ front ++ map (letter_to i) (take (suc j) l)
   letter_more p i x j front l h q S e =
-      let one : letterAt places mail size p ≡ letterTo i (get_or l j []) = ap₂ (λ (m : ℕ) (b : List ℕ). record { mark = m; bytes = b }) S.mark S.is in
+      let one : letter_at places mail size p ≡ letter_to i (get_or l j []) = ap₂ (λ (m : ℕ) (b : List ℕ). record { mark = m; bytes = b }) S.mark S.is in
       ap (λ (k : ℕ). named places mail size k (set out at p)) (add-one at)
-      ∙ ap (map (letterAt places mail size)) (take-suc-set out at p h)
-      ∙ map-append (letterAt places mail size) (take at out) (p ∷ [])
+      ∙ ap (map (letter_at places mail size)) (take-suc-set out at p h)
+      ∙ map-append (letter_at places mail size) (take at out) (p ∷ [])
       ∙ ap₂ (λ (a : List Letter) (b : Letter). a ++ (b ∷ [])) e one
-      ∙ append_assoc front (map (letterTo i) (take j l)) (letterTo i (get_or l j []) ∷ [])
-      ∙ ap (λ (a : List Letter). front ++ a) (sym (map-append (letterTo i) (take j l) (get_or l j [] ∷ [])))
-      ∙ ap (λ (a : List (List ℕ)). front ++ map (letterTo i) a) (sym (take-suc l j [] q))
+      ∙ append_assoc front (map (letter_to i) (take j l)) (letter_to i (get_or l j []) ∷ [])
+      ∙ ap (λ (a : List Letter). front ++ a) (sym (map-append (letter_to i) (take j l) (get_or l j [] ∷ [])))
+      ∙ ap (λ (a : List (List ℕ)). front ++ map (letter_to i) a) (sym (take-suc l j [] q))
 
   -- so many were written down
   pub written : (i : ℕ) (P : Post) → at ≤ length out → named places mail size at out ≡ letters i P → at ≡ total i P
   written i P h e =
-      omega (arith, length_letters i P, ap length e, length-map (take at out) (letterAt places mail size), length-take-le at out h)
+      omega (arith, length_letters i P, ap length e, length-map (take at out) (letter_at places mail size), length-take-le at out h)
 
 -- ---- room for all
 

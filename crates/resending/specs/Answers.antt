@@ -2,7 +2,7 @@
 -- Assumes nothing.
 use Rattle.std.specs.Prelude.{◌≡◌, List, [], ◌++◌, map, ℕ, zero, suc, ◌+◌, ◌≤◌, ◌<◌, length, take, get_or}
 use Rattle.delivery.specs.Post.{Post, total}
-use Rattle.delivery.specs.Memory.{Keeps, Standing, capacity, markAt, datagramAt}
+use Rattle.delivery.specs.Memory.{Keeps, Standing, capacity, mark_at, datagram_at}
 use Rattle.resending.specs.declared.Found.{Found}
 use Rattle.resending.specs.declared.Found.TheVariants.{At, Nowhere}
 use Rattle.resending.specs.declared.Listed.{Listed}
@@ -28,25 +28,25 @@ pub record Letter : Type 0 where
   pub bytes : List ℕ
 
 -- what stands in place p
-abbrev pub letterAt : (places mail : List ℕ) → ℕ → ℕ → Letter
-letterAt places mail size p = record { mark = markAt places p; bytes = datagramAt places mail size p }
+abbrev pub letter_at : (places mail : List ℕ) → ℕ → ℕ → Letter
+letter_at places mail size p = record { mark = mark_at places p; bytes = datagram_at places mail size p }
 
 -- a datagram for peer i
-abbrev pub letterTo : ℕ → List ℕ → Letter
-letterTo i d = record { mark = suc i; bytes = d }
+abbrev pub letter_to : ℕ → List ℕ → Letter
+letter_to i d = record { mark = suc i; bytes = d }
 
 -- what waits for peer i, in rising order of numbers
-abbrev pub lettersTo : Post → ℕ → List Letter
-lettersTo P i = map (letterTo i) (P.waiting i)
+abbrev pub letters_to : Post → ℕ → List Letter
+letters_to P i = map (letter_to i) (P.waiting i)
 
 -- what waits for the first n peers, one after the other
 abbrev pub letters : ℕ → Post → List Letter
 letters zero P = []
-letters (suc n) P = letters n P ++ lettersTo P n
+letters (suc n) P = letters n P ++ letters_to P n
 
 -- what stands in the places whose numbers are the first m that were written down
 abbrev pub named : (places mail : List ℕ) → ℕ → ℕ → (out : List ℕ) → List Letter
-named places mail size m out = map (letterAt places mail size) (take m out)
+named places mail size m out = map (letter_at places mail size) (take m out)
 
 -- the first m that were written down are numbers of places
 abbrev pub Within : (places : List ℕ) → ℕ → (out : List ℕ) → Type 0
@@ -57,7 +57,7 @@ abbrev pub PeerCases : Listed → (counts places : List ℕ) → ℕ → (out : 
 PeerCases (Places m) counts places peer out from out' =
     (m ≤ length out)
     × ((mail : List ℕ) (size n : ℕ) (P : Post) → Keeps counts places mail size n P → peer < n
-    → named places mail size m out' ≡ named places mail size from out ++ lettersTo P peer)
+    → named places mail size m out' ≡ named places mail size from out ++ letters_to P peer)
     × (Within places from out → Within places m out')
 PeerCases NoRoom counts places peer out from out' =
     (mail : List ℕ) (size n : ℕ) (P : Post) → Keeps counts places mail size n P → peer < n → length out < from + length (P.waiting peer)

@@ -32,28 +32,28 @@ vacant_nowhere A e = record { yes = λ y. absurd (false≢true y); no = λ n. (f
 
 -- ---- the kinds
 
-module _ {lows owners keys slots nameLens names places : List ℕ} {k : State} {a : Address} {s : List ℕ} {body : BodyView} where
-  answer_as : {b : BodyView} {r : Bool} → body ≡ b → Tested lows owners keys slots nameLens names places k a s b r → Tested lows owners keys slots nameLens names places k a s body r
-  answer_as {b} {r} e A = subst (λ (x : BodyView). Tested lows owners keys slots nameLens names places k a s x r) (sym e) A
+module _ {lows owners keys slots name_lens names places : List ℕ} {k : State} {a : Address} {s : List ℕ} {body : BodyView} where
+  answer_as : {b : BodyView} {r : Bool} → body ≡ b → Tested lows owners keys slots name_lens names places k a s b r → Tested lows owners keys slots name_lens names places k a s body r
+  answer_as {b} {r} e A = subst (λ (x : BodyView). Tested lows owners keys slots name_lens names places k a s x r) (sym e) A
 
   -- what was said of an answer holds of one that is equal to it
-  pub room_as : {r q : Bool} → q ≡ r → Tested lows owners keys slots nameLens names places k a s body r
-      → Tested lows owners keys slots nameLens names places k a s body q
-  room_as e A = subst (λ (x : Bool). Tested lows owners keys slots nameLens names places k a s body x) (sym e) A
+  pub room_as : {r q : Bool} → q ≡ r → Tested lows owners keys slots name_lens names places k a s body r
+      → Tested lows owners keys slots name_lens names places k a s body q
+  room_as e A = subst (λ (x : Bool). Tested lows owners keys slots name_lens names places k a s body x) (sym e) A
 
-  pub get_room : {x : ℕ} {r : Bool} → body ≡ Get x → Vacant places r → Tested lows owners keys slots nameLens names places k a s body r
+  pub get_room : {x : ℕ} {r : Bool} → body ≡ Get x → Vacant places r → Tested lows owners keys slots name_lens names places k a s body r
   get_room e P =
       answer_as e
       (record {
         roomy = λ y lens values counts mail room h l C f b.
             let p = P.yes y in
-            free_place (memory lows owners keys slots lens values nameLens names counts places mail) k h C p.0 p.1.within p.1.free;
+            free_place (memory lows owners keys slots lens values name_lens names counts places mail) k h C p.0 p.1.within p.1.free;
         lacks = λ n lens values counts mail room h l C f b.
-            all_taken (memory lows owners keys slots lens values nameLens names counts places mail) k h C (P.no n);
+            all_taken (memory lows owners keys slots lens values name_lens names counts places mail) k h C (P.no n);
       })
 
   module _ {x : ℕ} {v : ValueView} (e : body ≡ Set x v) {t : Bool} (L : TooLong v t) where
-    pub set_long : t ≡ true → Tested lows owners keys slots nameLens names places k a s body true
+    pub set_long : t ≡ true → Tested lows owners keys slots name_lens names places k a s body true
     set_long y =
         answer_as e
         (record {
@@ -61,27 +61,27 @@ module _ {lows owners keys slots nameLens names places : List ℕ} {k : State} {
           lacks = λ o. absurd (true≢false o);
         })
 
-    pub set_room : t ≡ false → {r : Bool} → Vacant places r → Tested lows owners keys slots nameLens names places k a s body r
+    pub set_room : t ≡ false → {r : Bool} → Vacant places r → Tested lows owners keys slots name_lens names places k a s body r
     set_room n P =
         answer_as e
         (record {
           roomy = λ y lens values counts mail room h l C f b z.
               let p = P.yes y in
-              free_place (memory lows owners keys slots lens values nameLens names counts places mail) k h C p.0 p.1.within p.1.free;
+              free_place (memory lows owners keys slots lens values name_lens names counts places mail) k h C p.0 p.1.within p.1.free;
           lacks = λ o lens values counts mail room h l C f b N.
-              all_taken (memory lows owners keys slots lens values nameLens names counts places mail) k h C (P.no o) (N (sym (L.is s b) ∙ n));
+              all_taken (memory lows owners keys slots lens values name_lens names counts places mail) k h C (P.no o) (N (sym (L.is s b) ∙ n));
         })
 
-  pub reply_room : {x : ℕ} {v : ValueView} → body ≡ Reply x v → Tested lows owners keys slots nameLens names places k a s body true
+  pub reply_room : {x : ℕ} {v : ValueView} → body ≡ Reply x v → Tested lows owners keys slots name_lens names places k a s body true
   reply_room e = answer_as e (record { roomy = λ o lens values counts mail room h l C f b. tt; lacks = λ o. absurd (true≢false o) })
 
-  pub redirect_room : {x : ℕ} {p : Part} → body ≡ Redirect x p → Tested lows owners keys slots nameLens names places k a s body true
+  pub redirect_room : {x : ℕ} {p : Part} → body ≡ Redirect x p → Tested lows owners keys slots name_lens names places k a s body true
   redirect_room e = answer_as e (record { roomy = λ o lens values counts mail room h l C f b. tt; lacks = λ o. absurd (true≢false o) })
 
   pub shard_room : {lo hi : Bound} {to : Part} {r : Bool} → body ≡ Shard lo hi to
-      → ShardTested lows owners keys nameLens names places k s lo hi to r → Tested lows owners keys slots nameLens names places k a s body r
+      → ShardTested lows owners keys name_lens names places k s lo hi to r → Tested lows owners keys slots name_lens names places k a s body r
   shard_room e A = answer_as e (A.is slots a)
 
   pub delegate_room : {lo hi : Bound} {list : ListView} {r : Bool} → body ≡ Delegate lo hi list
-      → DelegateTested lows owners keys slots nameLens names k a s lo hi list r → Tested lows owners keys slots nameLens names places k a s body r
+      → DelegateTested lows owners keys slots name_lens names k a s lo hi list r → Tested lows owners keys slots name_lens names places k a s body r
   delegate_room e A = answer_as e (A.is places)

@@ -8,7 +8,7 @@ use native.Mathlib.Omega.{arith}
 use lib.ListN.{length}
 use lib.Dec.{leb}
 use borrow.Author.Tests.{leb-true, leb-false}
-use Rattle.limits.specs.Limits.{entriesLimit}
+use Rattle.limits.specs.Limits.{entries_limit}
 use Rattle.keys.specs.declared.Bound.{Bound}
 use Rattle.keys.specs.Bound.{below}
 use Rattle.format.specs.Format.{Entry}
@@ -25,7 +25,7 @@ use Rattle.protocol.specs.Address.{among}
 use Rattle.protocol.specs.Records.{replacing}
 use Rattle.protocol.specs.Owners.{giving}
 use Rattle.protocol.specs.State.{Host, Letter}
-use Rattle.protocol.specs.Process.{anyLong, unfit}
+use Rattle.protocol.specs.Process.{any_long, unfit}
 use Rattle.hosts.specs.declared.State.{State}
 use Rattle.hosts.specs.Memory.{Memory, memory}
 use Rattle.hosts.specs.Limits.{Bounded}
@@ -67,14 +67,14 @@ module _ (m : Memory) (k : State) (h : Host) (C : Core m k h) where
   unfit_stranger l lo hi es n =
       let e : among l.from h.hosts ≡ false =
       subst (λ (x : List Address). among l.from x ≡ false) C.says.hosts_are (strange_among C.N k.hosts l.from n) in
-      or_right (not (below lo hi)) _ (or_right (leb entriesLimit (length es)) _ (or_right (anyLong es) _ (ap not e)))
+      or_right (not (below lo hi)) _ (or_right (leb entries_limit (length es)) _ (or_right (any_long es) _ (ap not e)))
 
-module _ {lows owners keys slots nameLens names : List ℕ} {k : State} {a : Address} {s : List ℕ} {lo hi : Bound} {list : ListView} where
+module _ {lows owners keys slots name_lens names : List ℕ} {k : State} {a : Address} {s : List ℕ} {lo hi : Bound} {list : ListView} where
   -- one that is dropped needs nothing
   needless : ((lens values counts places mail : List ℕ) (h : Host) (l : Letter)
-      → Core (memory lows owners keys slots lens values nameLens names counts places mail) k h → l.from ≡ a → BodyIn s (Delegate lo hi list)
+      → Core (memory lows owners keys slots lens values name_lens names counts places mail) k h → l.from ≡ a → BodyIn s (Delegate lo hi list)
       → unfit h l lo hi (es s list) ≡ true)
-      → DelegateTested lows owners keys slots nameLens names k a s lo hi list true
+      → DelegateTested lows owners keys slots name_lens names k a s lo hi list true
   needless U = record {
     is = λ places. record {
       roomy = λ e lens values counts mail room h l C f b z. absurd (true≢false (sym (U lens values counts places mail h l C f b) ∙ z));
@@ -82,31 +82,31 @@ module _ {lows owners keys slots nameLens names : List ℕ} {k : State} {a : Add
     };
   }
 
-  module _ {q : Peer} (A : AfterFind nameLens names k.width k.hosts a q) where
-    pub delegate_stranger : q ≡ Unknown → DelegateTested lows owners keys slots nameLens names k a s lo hi list true
+  module _ {q : Peer} (A : AfterFind name_lens names k.width k.hosts a q) where
+    pub delegate_stranger : q ≡ Unknown → DelegateTested lows owners keys slots name_lens names k a s lo hi list true
     delegate_stranger e =
         needless
         (λ lens values counts places mail h l C f b.
-        unfit_stranger (memory lows owners keys slots lens values nameLens names counts places mail) k h C l lo hi (es s list)
+        unfit_stranger (memory lows owners keys slots lens values name_lens names counts places mail) k h C l lo hi (es s list)
         (λ i p z. (find_as e A).is C.N (keeps_fewer C.names_kept C.says.few) i p (z ∙ f)))
 
     module _ {i : ℕ} (e : q ≡ Is i) {k' : State} (same : k' ≡ heard k i) {t : Bool} (F : Fine k' lo hi list.count t) where
       -- whether it is dropped, by the two tests
       unfit_is : (x : Bool) → t ≡ x → (lens values counts places mail : List ℕ) (h : Host) (l : Letter)
-          → Core (memory lows owners keys slots lens values nameLens names counts places mail) k h → l.from ≡ a → BodyIn s (Delegate lo hi list)
-          → unfit h l lo hi (es s list) ≡ not x || anyLong (es s list)
+          → Core (memory lows owners keys slots lens values name_lens names counts places mail) k h → l.from ≡ a → BodyIn s (Delegate lo hi list)
+          → unfit h l lo hi (es s list) ≡ not x || any_long (es s list)
       unfit_is x y lens values counts places mail h l C f b =
-          let m = memory lows owners keys slots lens values nameLens names counts places mail in
+          let m = memory lows owners keys slots lens values name_lens names counts places mail in
           let w = (find_as e A).is C.N (keeps_fewer C.names_kept C.says.few) in
           let p : i < k.peers = omega (arith, w.0, C.says.few) in
           let H : Heard m (heard k i) l = record { from_in = p; from_is = name_is m k h C i p ∙ w.1 ∙ sym f } in
           unfit_as (subst (λ (z : State). Fine z lo hi list.count t) same F) m h (core_heard m k h C i) l H b x y
 
-      pub delegate_unfit : t ≡ false → DelegateTested lows owners keys slots nameLens names k a s lo hi list true
+      pub delegate_unfit : t ≡ false → DelegateTested lows owners keys slots name_lens names k a s lo hi list true
       delegate_unfit y = needless (unfit_is false y)
 
       module _ (y : t ≡ true) {u : Bool} {ks ats ls : List ℕ} (B : AfterColumns s list.at list.count u ks ats ls) where
-        pub delegate_long : length ks ≡ entriesLimit → length ats ≡ entriesLimit → length ls ≡ entriesLimit → u ≡ false → DelegateTested lows owners keys slots nameLens names k a s lo hi list true
+        pub delegate_long : length ks ≡ entries_limit → length ats ≡ entries_limit → length ls ≡ entries_limit → u ≡ false → DelegateTested lows owners keys slots name_lens names k a s lo hi list true
         delegate_long ek ea el v =
             let n = few_entries F y in
             needless
@@ -116,17 +116,17 @@ module _ {lows owners keys slots nameLens names : List ℕ} {k : State} {a : Add
 
         module _ (v : u ≡ true) where
           fit : (lens values counts places mail : List ℕ) (h : Host) (l : Letter)
-              → Core (memory lows owners keys slots lens values nameLens names counts places mail) k h → l.from ≡ a → BodyIn s (Delegate lo hi list)
+              → Core (memory lows owners keys slots lens values name_lens names counts places mail) k h → l.from ≡ a → BodyIn s (Delegate lo hi list)
               → unfit h l lo hi (es s list) ≡ false
           fit lens values counts places mail h l C f b = unfit_is true y lens values counts places mail h l C f b ∙ (B.yes v b.0 b.1).0
 
           -- one that is taken needs room in the map
-          pub delegate_bounds : {w : Bool} → Fits lows owners k.bounds lo hi k.me w → w ≡ false → DelegateTested lows owners keys slots nameLens names k a s lo hi list false
+          pub delegate_bounds : {w : Bool} → Fits lows owners k.bounds lo hi k.me w → w ≡ false → DelegateTested lows owners keys slots name_lens names k a s lo hi list false
           delegate_bounds F z = record {
             is = λ places. record {
               roomy = λ o. absurd (false≢true o);
               lacks = λ o lens values counts mail space h l C f b N.
-                  let m = memory lows owners keys slots lens values nameLens names counts places mail in
+                  let m = memory lows owners keys slots lens values name_lens names counts places mail in
                   let r =
                   bounded_left m k h C lo hi k.me C.says.own F.after (room lows owners) F.left
                   (subst (λ (x : Address). Bounded (room lows owners) h (giving lo hi x h.owners)) (sym C.says.me_is)
@@ -137,12 +137,12 @@ module _ {lows owners keys slots nameLens names : List ℕ} {k : State} {a : Add
 
           -- .. and in the table
           pub delegate_entries : {w : Bool} → Fits lows owners k.bounds lo hi k.me w → w ≡ true → {n : ℕ}
-              → Left keys k.entries lo hi ks list.count n → DelegateTested lows owners keys slots nameLens names k a s lo hi list (leb n (length slots))
+              → Left keys k.entries lo hi ks list.count n → DelegateTested lows owners keys slots name_lens names k a s lo hi list (leb n (length slots))
           delegate_entries F z {n} L = record {
             is = λ places. record {
               roomy = λ o lens values counts mail space h l C f b x. (
                 subst (λ (x : Address). Bounded (room lows owners) h (giving lo hi x h.owners)) C.says.me_is
-                    (left_bounded (memory lows owners keys slots lens values nameLens names counts places mail) k h C lo hi k.me C.says.own F.after (room lows owners) F.left (F.yes z)),
+                    (left_bounded (memory lows owners keys slots lens values name_lens names counts places mail) k h C lo hi k.me C.says.own F.after (room lows owners) F.left (F.yes z)),
                 omega (arith, leb-true n (length slots) o, size lens values counts places mail h C b),
               );
               lacks = λ o lens values counts mail space h l C f b N.
@@ -151,7 +151,7 @@ module _ {lows owners keys slots nameLens names : List ℕ} {k : State} {a : Add
           }
             where
               size : (lens values counts places mail : List ℕ) (h : Host)
-                  → Core (memory lows owners keys slots lens values nameLens names counts places mail) k h → BodyIn s (Delegate lo hi list)
+                  → Core (memory lows owners keys slots lens values name_lens names counts places mail) k h → BodyIn s (Delegate lo hi list)
                   → n ≡ length (replacing lo hi (es s list) h.records)
               size lens values counts places mail h C b =
                   let R = b.1 in

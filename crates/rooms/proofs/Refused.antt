@@ -7,7 +7,7 @@ use Prim.Native.Nat.{ℕ, ◌<◌}
 use native.Mathlib.Omega.{arith}
 use lib.ListN.{length}
 use lib.Dec.{ltb, leb}
-use Rattle.limits.specs.Limits.{entriesLimit}
+use Rattle.limits.specs.Limits.{entries_limit}
 use Rattle.keys.specs.declared.Bound.{Bound}
 use Rattle.keys.specs.Bound.{below}
 use Rattle.message.specs.Message.{Address}
@@ -31,10 +31,10 @@ or_left : (s t : Bool) → s ≡ true → s || t ≡ true
 or_left s t e = rw e refl
 
 -- the definition's tests of the range
-range_tests : (a b : Bool) (n : ℕ) → not a || (not b || leb entriesLimit n) ≡ not (a && (b && ltb n entriesLimit))
+range_tests : (a b : Bool) (n : ℕ) → not a || (not b || leb entries_limit n) ≡ not (a && (b && ltb n entries_limit))
 range_tests false b n = refl
 range_tests true false n = refl
-range_tests true true n = leb_not n entriesLimit
+range_tests true true n = leb_not n entries_limit
 
 module _ (h : Host) (lo hi : Bound) (a : Address) where
   -- by the recipient and by the range

@@ -18,19 +18,19 @@ use Rattle.hosts.specs.declared.State.{State}
 use Rattle.hosts.specs.declared.Processed.{Processed}
 use Rattle.hosts.specs.declared.Processed.TheVariants.{Idle, Stuck, Replied, Redirected, Dropped, Unnumbered, Accepted, Handed}
 use Rattle.hosts.specs.Memory.{Memory, memory}
-use Rattle.hosts.specs.Limits.{Limits, waitingFor, Needs}
-use Rattle.hosts.specs.Keeps.{Core, limitsOf, RoomCases, Keeps}
-use Rattle.hosts.specs.Answers.{sendsOf as processedSends}
+use Rattle.hosts.specs.Limits.{Limits, waiting_for, Needs}
+use Rattle.hosts.specs.Keeps.{Core, limits_of, RoomCases, Keeps}
+use Rattle.hosts.specs.Answers.{sends_of as processedSends}
 use Rattle.repeating.specs.declared.Repeated.{Repeated}
 use Rattle.repeating.specs.declared.Repeated.TheVariants.{Places, NoRoom}
 use Rattle.repeating.specs.Answers.{AfterRepeat}
 use Rattle.rounds.specs.declared.Turned.TheVariants.{Resent, Waits}
 use Rattle.rounds.specs.declared.Ended.{Ended}
-use Rattle.rounds.specs.Answers.{Turns, counted, overOf, refusal, AfterAgain}
+use Rattle.rounds.specs.Answers.{Turns, counted, over_of, refusal, AfterAgain}
 
 -- ---- the count of turns is in no other clause
 
-waiting_turned : (n : ℕ) (h : Host) (l : List Address) → waitingFor (turned n h) l ≡ waitingFor h l
+waiting_turned : (n : ℕ) (h : Host) (l : List Address) → waiting_for (turned n h) l ≡ waiting_for h l
 waiting_turned n h [] = refl
 waiting_turned n h (a ∷ l) = ap (λ (x : ℕ). length (h.waiting a) + x) (waiting_turned n h l)
 
@@ -43,7 +43,7 @@ needs_turned L n h l (reply k v) N = tt
 needs_turned L n h l (redirect k a) N = tt
 
 module _ (m : Memory) (k : State) (h : Host) (C : Core m k h) where
-  core_over : Core m (overOf k) (over h)
+  core_over : Core m (over_of k) (over h)
   core_over = record {
     N = C.N;
     f = C.f;
@@ -75,14 +75,14 @@ module _ (m : Memory) (k : State) (h : Host) (C : Core m k h) where
     turns_is = ap (λ (t : ℕ). (t + 1) % round) C.turns_is;
   }
 
-pub keeps_over : (m : Memory) (k : State) (room : List ℕ) (h : Host) → Keeps m k room h → Keeps m (overOf k) room (over h)
+pub keeps_over : (m : Memory) (k : State) (room : List ℕ) (h : Host) → Keeps m k room h → Keeps m (over_of k) room (over h)
 keeps_over m k room h K = record { core = core_over m k h K.core; room_is = go h.room K.room_is }
   where
-    go : (o : Option Letter) → RoomCases m k room h o → RoomCases m (overOf k) room (over h) o
+    go : (o : Option Letter) → RoomCases m k room h o → RoomCases m (over_of k) room (over h) o
     go none R = R
-    go (some l) R = (R.0, R.1, R.2, R.3, R.4, needs_turned (limitsOf m k room) ((h.turns + 1) % round) h l l.body R.5)
+    go (some l) R = (R.0, R.1, R.2, R.3, R.4, needs_turned (limits_of m k room) ((h.turns + 1) % round) h l l.body R.5)
 
-pub sends_over : (m : Memory) (k : State) (r : Processed) → processedSends m (overOf k) r ≡ processedSends m k r
+pub sends_over : (m : Memory) (k : State) (r : Processed) → processedSends m (over_of k) r ≡ processedSends m k r
 sends_over m k Idle = refl
 sends_over m k Stuck = refl
 sends_over m k (Replied p) = refl
@@ -93,41 +93,41 @@ sends_over m k Accepted = refl
 sends_over m k (Handed p) = refl
 
 -- the count is taken within a round before it is raised, so that it cannot run over
-pub goes_on : (k : State) → counted ((k.turns % round + 1) % round) k ≡ overOf k
+pub goes_on : (k : State) → counted ((k.turns % round + 1) % round) k ≡ over_of k
 goes_on k = ap (λ (n : ℕ). counted n k) (mod-add-mod k.turns round 1)
 
 -- ---- a turn without a step
 
 module _ {m : Memory} {k : State} {room : List ℕ} {a : Address} {ack : List ℕ} where
   -- nothing is done on this turn
-  pub waited : (h : Host) → Keeps m k room h → (out : List ℕ) → Turns m (overOf k) room a ack out Waits (ended (still h waits))
+  pub waited : (h : Host) → Keeps m k room h → (out : List ℕ) → Turns m (over_of k) room a ack out Waits (ended (still h waits))
   waited h K out = record { keeps = keeps_over m k room h K; outcome = refl; sends = refl }
 
 -- ---- sending again
 
 module _ {counts places : List ℕ} {k : State} {out : List ℕ} where
   -- it is not the turn for it
-  pub not_due : {f : State} → (k.turns + 1 ≡ round → ⊥) → f ≡ overOf k → AfterAgain counts places k out (record { state = f; outcome = Waits; place = 0 }) out
+  pub not_due : {f : State} → (k.turns + 1 ≡ round → ⊥) → f ≡ over_of k → AfterAgain counts places k out (record { state = f; outcome = Waits; place = 0 }) out
   not_due {f} n q = subst (λ (g : State). AfterAgain counts places k out (record { state = g; outcome = Waits; place = 0 }) out) (sym q) (record {
-    is = λ lows owners keys slots lens values nameLens names mail room h K c a ack.
+    is = λ lows owners keys slots lens values name_lens names mail room h K c a ack.
         let e : eqb (h.turns + 1) round ≡ false = ne_eqb (h.turns + 1) round (λ d. n (ap (λ (t : ℕ). t + 1) K.core.turns_is ∙ d)) in
-        subst (λ (t : Bool). Turns (memory lows owners keys slots lens values nameLens names counts places mail) (overOf k) room a ack out Waits (ended (resending t h))) (sym e)
+        subst (λ (t : Bool). Turns (memory lows owners keys slots lens values name_lens names counts places mail) (over_of k) room a ack out Waits (ended (resending t h))) (sym e)
         (waited h K out);
     fit = λ c. refl;
     refused = λ t. absurd (false≢true t);
   })
 
-  pub due : {out' : List ℕ} {f : State} {n : ℕ} → k.turns + 1 ≡ round → AfterRepeat counts places k out (Places n) out' → f ≡ overOf k
+  pub due : {out' : List ℕ} {f : State} {n : ℕ} → k.turns + 1 ≡ round → AfterRepeat counts places k out (Places n) out' → f ≡ over_of k
       → AfterAgain counts places k out (record { state = f; outcome = Resent n; place = 0 }) out'
   due {out'} {f} {n} d R q = subst (λ (g : State). AfterAgain counts places k out (record { state = g; outcome = Resent n; place = 0 }) out') (sym q) (record {
-    is = λ lows owners keys slots lens values nameLens names mail room h K c a ack.
-        let M = memory lows owners keys slots lens values nameLens names counts places mail in
+    is = λ lows owners keys slots lens values name_lens names mail room h K c a ack.
+        let M = memory lows owners keys slots lens values name_lens names counts places mail in
         let e : eqb (h.turns + 1) round ≡ true = eq-eqb (h.turns + 1) round (ap (λ (t : ℕ). t + 1) (sym K.core.turns_is) ∙ d) in
-        subst (λ (t : Bool). Turns M (overOf k) room a ack out' (Resent n) (ended (resending t h))) (sym e)
+        subst (λ (t : Bool). Turns M (over_of k) room a ack out' (Resent n) (ended (resending t h))) (sym e)
         (record {
           keeps = keeps_over M k room h K;
           outcome = refl;
-          sends = R.is.1 lows owners keys slots lens values nameLens names mail h K.core;
+          sends = R.is.1 lows owners keys slots lens values name_lens names mail h K.core;
         });
     fit = λ c. refl;
     refused = λ t. absurd (false≢true t);
@@ -136,7 +136,7 @@ module _ {counts places : List ℕ} {k : State} {out : List ℕ} where
   -- too little was lent
   pub no_room : {out' : List ℕ} {r : Ended} → AfterRepeat counts places k out NoRoom out' → r ≡ refusal k → AfterAgain counts places k out r out'
   no_room R q = record {
-    is = λ lows owners keys slots lens values nameLens names mail room h K c a ack. absurd (omega (arith, c, R.is.1));
+    is = λ lows owners keys slots lens values name_lens names mail room h K c a ack. absurd (omega (arith, c, R.is.1));
     fit = λ c. absurd (omega (arith, c, R.is.1));
     refused = λ t. (q, R.is.0);
   }

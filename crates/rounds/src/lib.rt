@@ -3,7 +3,7 @@
 #![tactic(auto)]
 
 ghost use Rattle.std.specs.Prelude.{◌≡◌};
-ghost use Rattle.rounds.specs.Answers.{AfterAgain, overOf, refusal};
+ghost use Rattle.rounds.specs.Answers.{AfterAgain, over_of, refusal};
 
 use hosts::{Processed, State};
 use incoming::Received;
@@ -68,7 +68,7 @@ pub fn unfit(k: State) -> Ended
 
 // The numbers with the turn over. The count begins anew at the end of a round.
 pub fn over(k: State) -> State
-    ensures { result ≡ overOf k }
+    ensures { result ≡ over_of k }
 {
     State {
         me: k.me,

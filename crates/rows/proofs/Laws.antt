@@ -10,7 +10,7 @@ use native.Mathlib.Omega.{arith}
 use lib.ListN.{length}
 use lib.Dec.{ltb}
 use borrow.Author.Tests.{lt-ltb, le-ltb}
-use Rattle.limits.specs.Limits.{transfersLimit}
+use Rattle.limits.specs.Limits.{transfers_limit}
 use Rattle.keys.specs.declared.Bound.{Bound}
 use Rattle.format.specs.declared.Part.{Part}
 use Rattle.message.specs.Message.{Address, Body}
@@ -25,22 +25,22 @@ use Rattle.decoding.specs.Decode.{same}
 use Rattle.protocol.specs.State.{Host, Letter}
 use Rattle.protocol.specs.Delivery.{Step, Outcome, Request, numbered, still, dropped, stuck}
 use Rattle.protocol.specs.Records.{Value}
-use Rattle.protocol.specs.Owners.{ownerOf}
-use Rattle.protocol.specs.Process.{free, answering, onGet, long, keeping, onSet, unfit, onDelegate, refused, handing, onShard, onBody}
+use Rattle.protocol.specs.Owners.{owner_of}
+use Rattle.protocol.specs.Process.{free, answering, on_get, long, keeping, on_set, unfit, on_delegate, refused, handing, on_shard, on_body}
 use Rattle.hosts.specs.declared.State.{State}
 use Rattle.hosts.specs.declared.Done.{Done}
 use Rattle.hosts.specs.declared.Processed.TheVariants.{Stuck, Dropped}
 use Rattle.hosts.specs.Memory.{Memory}
-use Rattle.hosts.specs.Limits.{Needs, fitsValue}
-use Rattle.hosts.specs.Keeps.{Core, limitsOf}
-use Rattle.hosts.specs.Answers.{emptied, droppedOf, Does, AfterRow}
+use Rattle.hosts.specs.Limits.{Needs, fits_value}
+use Rattle.hosts.specs.Keeps.{Core, limits_of}
+use Rattle.hosts.specs.Answers.{emptied, dropped_of, Does, AfterRow}
 use Rattle.hosts.proofs.Core.{does_dropped}
 use Rattle.getting.specs.Answers.{AfterGet}
 use Rattle.setting.specs.Answers.{AfterSet}
 use Rattle.accepting.specs.Answers.{Takeable, row as delegateRow}
 use Rattle.handing.specs.Answers.{Handable, row as shardRow}
 use Rattle.staying.specs.Answers.{unchanged}
-use Rattle.rows.specs.Answers.{stepFor, AfterBody}
+use Rattle.rows.specs.Answers.{step_for, AfterBody}
 
 -- ---- a row frees the room
 
@@ -48,7 +48,7 @@ answering_frees : (t : Bool) (h : Host) (a : Address) (b : Body) (o : Outcome) (
 answering_frees true h a b o x e = e
 answering_frees false h a b o x e = e
 
-get_frees : (t : Bool) (h : Host) (l : Letter) (k : ℕ) → (onGet t h l k).state.room ≡ none
+get_frees : (t : Bool) (h : Host) (l : Letter) (k : ℕ) → (on_get t h l k).state.room ≡ none
 get_frees true h l k = answering_frees (numbered h l.from) (free h) l.from _ _ _ refl
 get_frees false h l k = answering_frees (numbered h l.from) (free h) l.from _ _ _ refl
 
@@ -57,16 +57,16 @@ keeping_frees true true h l k v = refl
 keeping_frees true false h l k v = refl
 keeping_frees false fits h l k v = refl
 
-set_frees : (long mine fits : Bool) (h : Host) (l : Letter) (k : ℕ) (v : Option Value) → (onSet long mine fits h l k v).state.room ≡ none
+set_frees : (long mine fits : Bool) (h : Host) (l : Letter) (k : ℕ) (v : Option Value) → (on_set long mine fits h l k v).state.room ≡ none
 set_frees true mine fits h l k v = refl
 set_frees false true fits h l k v = keeping_frees (numbered h l.from) fits h l k v
 set_frees false false fits h l k v = answering_frees (numbered h l.from) (free h) l.from _ _ _ refl
 
-delegate_frees : (t : Bool) (h : Host) (l : Letter) (lo hi : Bound) (es : List Entry) → (onDelegate t h l lo hi es).state.room ≡ none
+delegate_frees : (t : Bool) (h : Host) (l : Letter) (lo hi : Bound) (es : List Entry) → (on_delegate t h l lo hi es).state.room ≡ none
 delegate_frees true h l lo hi es = refl
 delegate_frees false h l lo hi es = refl
 
-shard_frees : (t : Bool) (h : Host) (lo hi : Bound) (a : Address) → (onShard t h lo hi a).state.room ≡ none
+shard_frees : (t : Bool) (h : Host) (lo hi : Bound) (a : Address) → (on_shard t h lo hi a).state.room ≡ none
 shard_frees true h lo hi a = refl
 shard_frees false h lo hi a = go (numbered h a)
   where
@@ -76,14 +76,14 @@ shard_frees false h lo hi a = go (numbered h a)
 
 -- ---- rows
 
-few : (m : Memory) (k : State) → k.transfers < transfersLimit - 2 → (h : Host) → Core m k h → ltb h.transfers (transfersLimit - 2) ≡ true
-few m k q h C = lt-ltb h.transfers (transfersLimit - 2) (omega (arith, q, C.transfers_is))
+few : (m : Memory) (k : State) → k.transfers < transfers_limit - 2 → (h : Host) → Core m k h → ltb h.transfers (transfers_limit - 2) ≡ true
+few m k q h C = lt-ltb h.transfers (transfers_limit - 2) (omega (arith, q, C.transfers_is))
 
 module _ {m m' : Memory} {k : State} {s : List ℕ} {r : Done} where
   -- a row whose needs are there and which frees the room
   by_row : (b : BodyView) {needs : Host → Letter → Type 0} {row : Host → Letter → Step} → AfterRow m k needs row r m'
-      → ((room : List ℕ) (h : Host) (l : Letter) → Core m k h → BodyIn s b → Needs (limitsOf m k room) h l (body_of s b) → needs h l)
-      → ((h : Host) (l : Letter) → Core m k h → row h l ≡ stepFor m s b h l) → ((h : Host) (l : Letter) → (row h l).state.room ≡ none)
+      → ((room : List ℕ) (h : Host) (l : Letter) → Core m k h → BodyIn s b → Needs (limits_of m k room) h l (body_of s b) → needs h l)
+      → ((h : Host) (l : Letter) → Core m k h → row h l ≡ step_for m s b h l) → ((h : Host) (l : Letter) → (row h l).state.room ≡ none)
       → AfterBody m k s b r m'
   by_row b A n e f = record {
     is = λ room h l C H I N. subst (Does m' r.state r.outcome) (e h l C) (A.is h l C H (n room h l C I N));
@@ -92,58 +92,58 @@ module _ {m m' : Memory} {k : State} {s : List ℕ} {r : Done} where
 
   pub gets : {b : BodyView} {key : ℕ} → b ≡ Get key → AfterGet m k key r m' → AfterBody m k s b r m'
   gets {b} {key} e A = subst (λ (b : BodyView). AfterBody m k s b r m') (sym e)
-      (by_row (Get key) A.is (λ room h l C I N. N) (λ h l C. refl) (λ h l. get_frees (same (ownerOf h.owners key) h.me) h l key))
+      (by_row (Get key) A.is (λ room h l C I N. N) (λ h l C. refl) (λ h l. get_frees (same (owner_of h.owners key) h.me) h l key))
 
   pub sets : {b : BodyView} {key : ℕ} {v : ValueView} → b ≡ Set key v → AfterSet m k s key v r m' → AfterBody m k s b r m'
   sets {b} {key} {v} e A = subst (λ (b : BodyView). AfterBody m k s b r m') (sym e)
-      (by_row (Set key v) A.is (λ room h l C I N. record { inside = I; place = N }) (λ h l C. refl) (λ h l. set_frees (long (value_of s v)) (same (ownerOf h.owners key) h.me) (fitsValue (length m.slots) h key (value_of s v)) h l key (value_of s v)))
+      (by_row (Set key v) A.is (λ room h l C I N. record { inside = I; place = N }) (λ h l C. refl) (λ h l. set_frees (long (value_of s v)) (same (owner_of h.owners key) h.me) (fits_value (length m.slots) h key (value_of s v)) h l key (value_of s v)))
 
-  pub shards : {b : BodyView} {lo hi : Bound} {to : Part} → b ≡ Shard lo hi to → k.transfers < transfersLimit - 2
+  pub shards : {b : BodyView} {lo hi : Bound} {to : Part} → b ≡ Shard lo hi to → k.transfers < transfers_limit - 2
       → AfterRow m k (Handable m.lows m.owners m.places s lo hi to) (shardRow s lo hi to) r m' → AfterBody m k s b r m'
   shards {b} {lo} {hi} {to} e q A = subst (λ (b : BodyView). AfterBody m k s b r m') (sym e)
       (by_row (Shard lo hi to) A
       (λ room h l C I N. record { few = few m k q h C; inside = I; place = λ f. (N f).0; bounds = λ f. (N f).1 })
-      (λ h l C. ap (λ (t : Bool). onBody t true h l (body_of s (Shard lo hi to))) (sym (few m k q h C)))
+      (λ h l C. ap (λ (t : Bool). on_body t true h l (body_of s (Shard lo hi to))) (sym (few m k q h C)))
       (λ h l. shard_frees (refused h lo hi (bytes_of s to)) h lo hi (bytes_of s to)))
 
-  pub delegates : {b : BodyView} {lo hi : Bound} {list : ListView} → b ≡ Delegate lo hi list → k.transfers < transfersLimit - 2
+  pub delegates : {b : BodyView} {lo hi : Bound} {list : ListView} → b ≡ Delegate lo hi list → k.transfers < transfers_limit - 2
       → AfterRow m k (Takeable m.lows m.owners m.slots s lo hi list) (delegateRow s lo hi list) r m' → AfterBody m k s b r m'
   delegates {b} {lo} {hi} {list} e q A = subst (λ (b : BodyView). AfterBody m k s b r m') (sym e)
       (by_row (Delegate lo hi list) A
       (λ room h l C I N. record { few = few m k q h C; inside = I; bounds = λ f. (N f).0; entries = λ f. (N f).1 })
-      (λ h l C. ap (λ (t : Bool). onBody t true h l (body_of s (Delegate lo hi list))) (sym (few m k q h C)))
+      (λ h l C. ap (λ (t : Bool). on_body t true h l (body_of s (Delegate lo hi list))) (sym (few m k q h C)))
       (λ h l. delegate_frees (unfit h l lo hi (listed s list.at list.count)) h l lo hi (listed s list.at list.count)))
 
 module _ {m : Memory} {k : State} {s : List ℕ} {r : Done} where
   -- a Reply or a Redirect is dropped
-  dropping : (b : BodyView) → ((h : Host) (l : Letter) → still (free h) dropped ≡ stepFor m s b h l) → r ≡ droppedOf k → AfterBody m k s b r m
+  dropping : (b : BodyView) → ((h : Host) (l : Letter) → still (free h) dropped ≡ step_for m s b h l) → r ≡ dropped_of k → AfterBody m k s b r m
   dropping b e q = subst (λ (d : Done). AfterBody m k s b d m) (sym q) (record {
     is = λ room h l C H I N. subst (Does m (emptied k) Dropped) (e h l) (does_dropped m k h C Dropped refl);
     leaves = λ h l C. inr (ap (λ (t : Step). t.state.room) (sym (e h l)), refl);
   })
 
-  pub replies : {b : BodyView} {key : ℕ} {v : ValueView} → b ≡ Reply key v → r ≡ droppedOf k → AfterBody m k s b r m
+  pub replies : {b : BodyView} {key : ℕ} {v : ValueView} → b ≡ Reply key v → r ≡ dropped_of k → AfterBody m k s b r m
   replies {b} {key} {v} e q = subst (λ (b : BodyView). AfterBody m k s b r m) (sym e) (dropping (Reply key v) (λ h l. refl) q)
 
-  pub redirects : {b : BodyView} {key : ℕ} {a : Part} → b ≡ Redirect key a → r ≡ droppedOf k → AfterBody m k s b r m
+  pub redirects : {b : BodyView} {key : ℕ} {a : Part} → b ≡ Redirect key a → r ≡ dropped_of k → AfterBody m k s b r m
   redirects {b} {key} {a} e q = subst (λ (b : BodyView). AfterBody m k s b r m) (sym e) (dropping (Redirect key a) (λ h l. refl) q)
 
   -- a Shard or a Delegate stays while the count is at its limit
-  staying : (b : BodyView) → ((h : Host) (l : Letter) → ltb h.transfers (transfersLimit - 2) ≡ false → still h stuck ≡ stepFor m s b h l)
-      → transfersLimit - 2 ≤ k.transfers → r ≡ unchanged k Stuck → AfterBody m k s b r m
+  staying : (b : BodyView) → ((h : Host) (l : Letter) → ltb h.transfers (transfers_limit - 2) ≡ false → still h stuck ≡ step_for m s b h l)
+      → transfers_limit - 2 ≤ k.transfers → r ≡ unchanged k Stuck → AfterBody m k s b r m
   staying b e n q = subst (λ (d : Done). AfterBody m k s b d m) (sym q) (record {
     is = λ room h l C H I N. subst (Does m k Stuck) (e h l (many h C)) (record { core = C; outcome = refl; sends = refl });
     leaves = λ h l C. inl (ap (λ (t : Step). t.state) (sym (e h l (many h C))), refl, refl);
   })
     where
-      many : (h : Host) → Core m k h → ltb h.transfers (transfersLimit - 2) ≡ false
-      many h C = le-ltb h.transfers (transfersLimit - 2) (omega (arith, n, C.transfers_is))
+      many : (h : Host) → Core m k h → ltb h.transfers (transfers_limit - 2) ≡ false
+      many h C = le-ltb h.transfers (transfers_limit - 2) (omega (arith, n, C.transfers_is))
 
-  pub shard_stays : {b : BodyView} {lo hi : Bound} {to : Part} → b ≡ Shard lo hi to → transfersLimit - 2 ≤ k.transfers → r ≡ unchanged k Stuck → AfterBody m k s b r m
+  pub shard_stays : {b : BodyView} {lo hi : Bound} {to : Part} → b ≡ Shard lo hi to → transfers_limit - 2 ≤ k.transfers → r ≡ unchanged k Stuck → AfterBody m k s b r m
   shard_stays {b} {lo} {hi} {to} e n q = subst (λ (b : BodyView). AfterBody m k s b r m) (sym e)
-      (staying (Shard lo hi to) (λ h l f. ap (λ (t : Bool). onBody t true h l (body_of s (Shard lo hi to))) (sym f)) n q)
+      (staying (Shard lo hi to) (λ h l f. ap (λ (t : Bool). on_body t true h l (body_of s (Shard lo hi to))) (sym f)) n q)
 
-  pub delegate_stays : {b : BodyView} {lo hi : Bound} {list : ListView} → b ≡ Delegate lo hi list → transfersLimit - 2 ≤ k.transfers → r ≡ unchanged k Stuck
+  pub delegate_stays : {b : BodyView} {lo hi : Bound} {list : ListView} → b ≡ Delegate lo hi list → transfers_limit - 2 ≤ k.transfers → r ≡ unchanged k Stuck
       → AfterBody m k s b r m
   delegate_stays {b} {lo} {hi} {list} e n q = subst (λ (b : BodyView). AfterBody m k s b r m) (sym e)
-      (staying (Delegate lo hi list) (λ h l f. ap (λ (t : Bool). onBody t true h l (body_of s (Delegate lo hi list))) (sym f)) n q)
+      (staying (Delegate lo hi list) (λ h l f. ap (λ (t : Bool). on_body t true h l (body_of s (Delegate lo hi list))) (sym f)) n q)

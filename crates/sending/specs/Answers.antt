@@ -19,9 +19,9 @@ pub record AfterSlot (mail size p : ℕ) (r : Slot) : Type 0 where
   pub is : SlotCases r mail size p
 
 -- what is given to a function that sends: a peer, a free place for the message, and its number. `Q n` is what the body asks of n peers
-pub record Given (nameLens names : List ℕ) (width : ℕ) (counts places mail : List ℕ) (size peer p x : ℕ) (Q : ℕ → Type 0) (n : ℕ) (N : ℕ → Address)
+pub record Given (name_lens names : List ℕ) (width : ℕ) (counts places mail : List ℕ) (size peer p x : ℕ) (Q : ℕ → Type 0) (n : ℕ) (N : ℕ → Address)
     (P : Post) : Type 0 where
-  pub names_kept : KeepsNames nameLens names width n N
+  pub names_kept : KeepsNames name_lens names width n N
   pub post_kept : KeepsPost counts places mail size n P
   pub peer_in : peer < n
   pub place_open : Open places p
@@ -29,11 +29,11 @@ pub record Given (nameLens names : List ℕ) (width : ℕ) (counts places mail :
   pub asked : Q n
 
 -- the message waits in its place, or it may not be written or is too long and nothing has changed
-pub record AfterSend (nameLens names : List ℕ) (width : ℕ) (counts places mail : List ℕ) (size peer p x : ℕ) (Q : ℕ → Type 0)
+pub record AfterSend (name_lens names : List ℕ) (width : ℕ) (counts places mail : List ℕ) (size peer p x : ℕ) (Q : ℕ → Type 0)
     (b : (ℕ → Address) → Body) (r : Bool) (counts' places' mail' : List ℕ) : Type 0 where
-  pub sent : r ≡ true → (n : ℕ) (N : ℕ → Address) (P : Post) → Given nameLens names width counts places mail size peer p x Q n N P
+  pub sent : r ≡ true → (n : ℕ) (N : ℕ → Address) (P : Post) → Given name_lens names width counts places mail size peer p x Q n N P
       → KeepsPost counts' places' mail' size n (posted peer (written (message x (N peer) (b N))) P)
       × Standing places' mail' size p peer x (written (message x (N peer) (b N)))
   pub unsent : r ≡ false → (counts' ≡ counts) × (places' ≡ places) × (mail' ≡ mail)
-      × ((n : ℕ) (N : ℕ → Address) (P : Post) → Given nameLens names width counts places mail size peer p x Q n N P
+      × ((n : ℕ) (N : ℕ → Address) (P : Post) → Given name_lens names width counts places mail size peer p x Q n N P
       → Valid (message x (N peer) (b N)) → length (written (message x (N peer) (b N))) ≤ size → ⊥)

@@ -8,7 +8,7 @@ use native.Mathlib.Omega.{arith}
 use lib.ListN.{length}
 use lib.Dec.{ltb}
 use borrow.Author.Tests.{lt-ltb, le-ltb}
-use Rattle.limits.specs.Limits.{valueMax}
+use Rattle.limits.specs.Limits.{value_max}
 use Rattle.memory.proofs.Parts.{length_part}
 use Rattle.format.specs.declared.Part.{Part}
 use Rattle.message.specs.declared.ValueView.{ValueView}
@@ -27,13 +27,13 @@ module _ {s : List ℕ} {v : ValueView} {part : Part} (e : v ≡ At part) where
       subst (λ (v : ValueView). IsSound s v false) (sym e)
       (record { yes = λ q. absurd (true≢false (sym q)); other = λ q i. absurd (omega (arith, h, i)) })
 
-  pub by_length : part.at + part.len ≤ length s → (r : Bool) → (r ≡ true → part.len ≤ valueMax) → (r ≡ false → valueMax < part.len) → IsSound s v r
+  pub by_length : part.at + part.len ≤ length s → (r : Bool) → (r ≡ true → part.len ≤ value_max) → (r ≡ false → value_max < part.len) → IsSound s v r
   by_length i r under over =
       let n = length_part s part.at part.len i in
       subst (λ (v : ValueView). IsSound s v r) (sym e)
       (record {
-        yes = λ q. record { inside = i; short = le-ltb valueMax (length (bytes_of s part)) (omega (arith, n, under q)) };
-        other = λ q j. lt-ltb valueMax (length (bytes_of s part)) (omega (arith, n, over q));
+        yes = λ q. record { inside = i; short = le-ltb value_max (length (bytes_of s part)) (omega (arith, n, under q)) };
+        other = λ q j. lt-ltb value_max (length (bytes_of s part)) (omega (arith, n, over q));
       })
 
 -- ---- the length of a value
@@ -41,7 +41,7 @@ module _ {s : List ℕ} {v : ValueView} {part : Part} (e : v ≡ At part) where
 pub no_value : {v : ValueView} → v ≡ None → TooLong v false
 no_value e = subst (λ (v : ValueView). TooLong v false) (sym e) (record { is = λ s i. refl })
 
-pub value_at_lem : {v : ValueView} {p : Part} → v ≡ At p → TooLong v (ltb valueMax p.len)
+pub value_at_lem : {v : ValueView} {p : Part} → v ≡ At p → TooLong v (ltb value_max p.len)
 value_at_lem {p = p} e =
-    subst (λ (v : ValueView). TooLong v (ltb valueMax p.len)) (sym e)
-    (record { is = λ s i. ap (ltb valueMax) (sym (length_part s p.at p.len i)) })
+    subst (λ (v : ValueView). TooLong v (ltb value_max p.len)) (sym e)
+    (record { is = λ s i. ap (ltb value_max) (sym (length_part s p.at p.len i)) })

@@ -15,17 +15,17 @@ use Rattle.delegation.specs.Map.{Owner}
 use Rattle.decoding.specs.Decode.{same}
 use Rattle.picking.specs.declared.Picked.TheVariants.{Place, NoNumber, NoPlace}
 use Rattle.picking.specs.Answers.{AfterPick}
-use Rattle.protocol.specs.Owners.{ownerOf}
+use Rattle.protocol.specs.Owners.{owner_of}
 use Rattle.protocol.specs.Records.{Value}
 use Rattle.protocol.specs.State.{Host, Letter}
-use Rattle.protocol.specs.Process.{onSet, keeping}
+use Rattle.protocol.specs.Process.{on_set, keeping}
 use Rattle.hosts.specs.declared.State.{State}
 use Rattle.hosts.specs.declared.Done.{Done}
 use Rattle.hosts.specs.declared.Processed.TheVariants.{Dropped, Unnumbered}
 use Rattle.hosts.specs.Memory.{Memory}
 use Rattle.hosts.specs.Keeps.{Core}
-use Rattle.hosts.specs.Limits.{fitsValue}
-use Rattle.hosts.specs.Answers.{emptied, sentOr, droppedOf, Heard, Does}
+use Rattle.hosts.specs.Limits.{fits_value}
+use Rattle.hosts.specs.Answers.{emptied, sent_or, dropped_of, Heard, Does}
 use Rattle.hosts.proofs.Totals.{all_taken}
 use Rattle.hosts.proofs.Core.{mailed, does_dropped, unanswered, no_number}
 use Rattle.referring.specs.Answers.{AfterRefer}
@@ -39,16 +39,16 @@ use Rattle.setting.specs.Answers.{AfterSet, AfterSettle}
 module _ {m : Memory} {k : State} {s : List ℕ} {key : ℕ} {v : ValueView} {p x : ℕ} where
   -- the key is another host's
   pub refers : {counts places mail : List ℕ} {owner : ℕ} {r : Done} → Sound s v → Owner m.lows m.owners k.bounds key owner → (owner ≡ k.me → ⊥)
-      → AfterRefer m.nameLens m.names m.counts m.places m.mail k p x key owner r counts places mail
+      → AfterRefer m.name_lens m.names m.counts m.places m.mail k p x key owner r counts places mail
       → AfterSettle m k s key v p x r (mailed m counts places mail)
   refers {counts} {places} {mail} {owner} {r} G O ne R = record {
     is = record {
       freed = (R.is m.lows m.owners m.keys m.slots m.lens m.values).freed;
       is = λ h l C H P.
           subst (λ (t : Bool). Does (mailed m counts places mail) r.state r.outcome
-          (onSet t (same (ownerOf h.owners key) h.me) (fitsValue (length m.slots) h key (value_of s v)) h l key (value_of s v))) (sym G.short)
+          (on_set t (same (owner_of h.owners key) h.me) (fits_value (length m.slots) h key (value_of s v)) h l key (value_of s v))) (sym G.short)
           (subst (λ (t : Bool). Does (mailed m counts places mail) r.state r.outcome
-          (onSet false t (fitsValue (length m.slots) h key (value_of s v)) h l key (value_of s v))) (sym (other m k key owner O ne h C))
+          (on_set false t (fits_value (length m.slots) h key (value_of s v)) h l key (value_of s v))) (sym (other m k key owner O ne h C))
           ((R.is m.lows m.owners m.keys m.slots m.lens m.values).is h l C H (record { picked = P; owner_is = λ D. O.is D.f D.map_kept })));
     };
   }
@@ -69,13 +69,13 @@ module _ {m : Memory} {k : State} {s : List ℕ} {key : ℕ} {v : ValueView} {p 
 
 module _ {m : Memory} {k : State} {s : List ℕ} {key : ℕ} {v : ValueView} where
   -- a value that is too long is dropped
-  pub too_long : {r : Done} → IsSound s v false → r ≡ droppedOf k → AfterSet m k s key v r m
+  pub too_long : {r : Done} → IsSound s v false → r ≡ dropped_of k → AfterSet m k s key v r m
   too_long {r} I e = subst (λ (d : Done). AfterSet m k s key v d m) (sym e) (record {
     is = record {
       freed = refl;
       is = λ h l C H Q.
           subst (λ (t : Bool). Does m (emptied k) Dropped
-          (onSet t (same (ownerOf h.owners key) h.me) (fitsValue (length m.slots) h key (value_of s v)) h l key (value_of s v))) (sym (I.other refl Q.inside))
+          (on_set t (same (owner_of h.owners key) h.me) (fits_value (length m.slots) h key (value_of s v)) h l key (value_of s v))) (sym (I.other refl Q.inside))
           (does_dropped m k h C Dropped refl);
     };
   })
@@ -89,27 +89,27 @@ module _ {m : Memory} {k : State} {s : List ℕ} {key : ℕ} {v : ValueView} whe
     };
   }
 
-  pub runs_out : {r : Done} → Sound s v → AfterPick m.counts m.places k.from NoNumber → r ≡ sentOr k false Dropped → AfterSet m k s key v r m
+  pub runs_out : {r : Done} → Sound s v → AfterPick m.counts m.places k.from NoNumber → r ≡ sent_or k false Dropped → AfterSet m k s key v r m
   runs_out {r} G A e = subst (λ (d : Done). AfterSet m k s key v d m) (sym e) (record {
     is = record {
       freed = refl;
       is = λ h l C H Q.
           subst (λ (t : Bool). Does m (emptied k) Unnumbered
-          (onSet t (same (ownerOf h.owners key) h.me) (fitsValue (length m.slots) h key (value_of s v)) h l key (value_of s v))) (sym G.short)
-          (either h l C H (same (ownerOf h.owners key) h.me));
+          (on_set t (same (owner_of h.owners key) h.me) (fits_value (length m.slots) h key (value_of s v)) h l key (value_of s v))) (sym G.short)
+          (either h l C H (same (owner_of h.owners key) h.me));
     };
   })
     where
       either : (h : Host) (l : Letter) (C : Core m k h) → Heard m k l → (t : Bool)
-          → Does m (emptied k) Unnumbered (onSet false t (fitsValue (length m.slots) h key (value_of s v)) h l key (value_of s v))
+          → Does m (emptied k) Unnumbered (on_set false t (fits_value (length m.slots) h key (value_of s v)) h l key (value_of s v))
       either h l C H true =
-          subst (λ (t : Bool). Does m (emptied k) Unnumbered (keeping t (fitsValue (length m.slots) h key (value_of s v)) h l key (value_of s v)))
+          subst (λ (t : Bool). Does m (emptied k) Unnumbered (keeping t (fits_value (length m.slots) h key (value_of s v)) h l key (value_of s v)))
           (sym (no_number m k h C k.from H.from_in l.from H.from_is (A.is m.mail k.size k.peers C.P C.post_kept H.from_in)))
           (does_dropped m k h C Unnumbered refl)
       either h l C H false =
           unanswered m k h C k.from H.from_in l.from H.from_is (A.is m.mail k.size k.peers C.P C.post_kept H.from_in) _ _ _
 
-  pub no_place : {r : Done} → Sound s v → AfterPick m.counts m.places k.from NoPlace → r ≡ sentOr k false Dropped → AfterSet m k s key v r m
+  pub no_place : {r : Done} → Sound s v → AfterPick m.counts m.places k.from NoPlace → r ≡ sent_or k false Dropped → AfterSet m k s key v r m
   no_place {r} G A e = subst (λ (d : Done). AfterSet m k s key v d m) (sym e) (record {
     is = record { freed = refl; is = λ h l C H Q. absurd (all_taken m k h C A.is.0 (Q.place G.short)) };
   })

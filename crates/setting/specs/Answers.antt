@@ -9,7 +9,7 @@ use Rattle.protocol.specs.Process.{long}
 use Rattle.hosts.specs.declared.State.{State}
 use Rattle.hosts.specs.declared.Done.{Done}
 use Rattle.hosts.specs.Memory.{Memory}
-use Rattle.hosts.specs.Limits.{waitingFor}
+use Rattle.hosts.specs.Limits.{waiting_for}
 use Rattle.hosts.specs.Answers.{AfterRow}
 use Rattle.referring.specs.Answers.{Picked}
 use Rattle.storing.specs.Answers.{row}
@@ -17,7 +17,7 @@ use Rattle.storing.specs.Answers.{row}
 -- the value stands in the datagram s, and unless it is too long there is a place for the answer
 pub record Settable (m : Memory) (s : List ℕ) (v : ValueView) (h : Host) (l : Letter) : Type 0 where
   pub inside : ValueIn s v
-  pub place : long (value_of s v) ≡ false → waitingFor h h.peers < capacity m.places
+  pub place : long (value_of s v) ≡ false → waiting_for h h.peers < capacity m.places
 
 pub record AfterSet (m : Memory) (k : State) (s : List ℕ) (key : ℕ) (v : ValueView) (r : Done) (m' : Memory) : Type 0 where
   pub is : AfterRow m k (Settable m s v) (row m key (value_of s v)) r m'

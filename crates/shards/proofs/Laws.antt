@@ -8,7 +8,7 @@ use native.Mathlib.Nat.{mul-le-mul_right}
 use native.Mathlib.Omega.{arith}
 use lib.ListN.{length}
 use lib.Dec.{ltb}
-use Rattle.limits.specs.Limits.{entriesLimit}
+use Rattle.limits.specs.Limits.{entries_limit}
 use Rattle.keys.specs.declared.Bound.{Bound}
 use Rattle.keys.specs.Bound.{below}
 use Rattle.message.specs.Message.{Address}
@@ -92,20 +92,20 @@ module _ (m : Memory) (k : State) (h : Host) (C : Core m k h) (lo hi : Bound) wh
 
 module _ {lows owners keys : List ℕ} {k : State} {lo hi : Bound} where
   pub movable_empty : below lo hi ≡ false → Movable lows owners keys k lo hi false
-  movable_empty e = record { is = λ slots lens values nameLens names counts places mail h C. rw e refl }
+  movable_empty e = record { is = λ slots lens values name_lens names counts places mail h C. rw e refl }
 
   module _ (b : below lo hi ≡ true) {w : Bool} (W : Whole lows owners k.bounds lo hi k.me w) where
     pub movable_other : w ≡ false → Movable lows owners keys k lo hi false
     movable_other f = record {
-      is = λ slots lens values nameLens names counts places mail h C.
-          let e = whole_is (memory lows owners keys slots lens values nameLens names counts places mail) k h C lo hi w W ∙ f in
+      is = λ slots lens values name_lens names counts places mail h C.
+          let e = whole_is (memory lows owners keys slots lens values name_lens names counts places mail) k h C lo hi w W ∙ f in
           rw (b, e) refl;
     }
 
-    pub movable_counted : w ≡ true → {n : ℕ} → Counted keys k.entries lo hi n → Movable lows owners keys k lo hi (ltb n entriesLimit)
+    pub movable_counted : w ≡ true → {n : ℕ} → Counted keys k.entries lo hi n → Movable lows owners keys k lo hi (ltb n entries_limit)
     movable_counted t {n} A = record {
-      is = λ slots lens values nameLens names counts places mail h C.
-          let m = memory lows owners keys slots lens values nameLens names counts places mail in
+      is = λ slots lens values name_lens names counts places mail h C.
+          let m = memory lows owners keys slots lens values name_lens names counts places mail in
           let e = whole_is m k h C lo hi w W ∙ t in
-          rw (b, e) (ap (λ (x : ℕ). ltb x entriesLimit) (entries_are m k h C lo hi n A));
+          rw (b, e) (ap (λ (x : ℕ). ltb x entries_limit) (entries_are m k h C lo hi n A));
     }

@@ -1,7 +1,7 @@
 -- What the tests on a Shard answer.
 -- Assumes nothing.
 use Rattle.std.specs.Prelude.{◌≡◌, Bool, true, false, ◌&&◌, List, ℕ, ◌≤◌, ◌<◌, length, ltb}
-use Rattle.limits.specs.Limits.{entriesLimit}
+use Rattle.limits.specs.Limits.{entries_limit}
 use Rattle.keys.specs.declared.Bound.{Bound}
 use Rattle.keys.specs.Bound.{below, holds}
 use Rattle.format.specs.declared.Part.{Part}
@@ -22,16 +22,16 @@ use Rattle.hosts.specs.Keeps.{Core}
 use Rattle.message.specs.declared.BodyView.TheVariants.{Shard}
 
 -- the number of a host that has the address and is another, or there is none
-abbrev pub RecipientCases : Peer → (nameLens names : List ℕ) → State → List ℕ → Part → Type 0
-RecipientCases (Is i) nameLens names k s to =
-    (n : ℕ) (N : ℕ → Address) → KeepsNames nameLens names k.width n N → k.hosts ≤ n
+abbrev pub RecipientCases : Peer → (name_lens names : List ℕ) → State → List ℕ → Part → Type 0
+RecipientCases (Is i) name_lens names k s to =
+    (n : ℕ) (N : ℕ → Address) → KeepsNames name_lens names k.width n N → k.hosts ≤ n
     → (i < k.hosts) × (N i ≡ bytes_of s to) × (i ≡ k.me → ⊥)
-RecipientCases Unknown nameLens names k s to =
-    (n : ℕ) (N : ℕ → Address) → KeepsNames nameLens names k.width n N → k.hosts ≤ n → PartIn s to
+RecipientCases Unknown name_lens names k s to =
+    (n : ℕ) (N : ℕ → Address) → KeepsNames name_lens names k.width n N → k.hosts ≤ n → PartIn s to
     → (i : ℕ) → i < k.hosts → N i ≡ bytes_of s to → i ≡ k.me
 
-pub record AfterRecipient (nameLens names : List ℕ) (k : State) (s : List ℕ) (to : Part) (r : Peer) : Type 0 where
-  pub is : RecipientCases r nameLens names k s to
+pub record AfterRecipient (name_lens names : List ℕ) (k : State) (s : List ℕ) (to : Part) (r : Peer) : Type 0 where
+  pub is : RecipientCases r name_lens names k s to
 
 -- r says whether the range has a key; then its bounds can be written
 pub record HasKey (lo hi : Bound) (r : Bool) : Type 0 where
@@ -48,11 +48,11 @@ pub record Mine (lows owners : List ℕ) (k : State) (lo hi : Bound) (r : Bool) 
 
 -- the range has a key, is all the host's own, and has few enough entries for a transfer
 abbrev pub movable : Host → Bound → Bound → Bool
-movable h lo hi = below lo hi && (whole lo hi h.me h.owners && ltb (length (in_range lo hi h.records)) entriesLimit)
+movable h lo hi = below lo hi && (whole lo hi h.me h.owners && ltb (length (in_range lo hi h.records)) entries_limit)
 
 pub record Movable (lows owners keys : List ℕ) (k : State) (lo hi : Bound) (r : Bool) : Type 0 where
-  pub is : (slots lens values nameLens names counts places mail : List ℕ) (h : Host)
-      → Core (memory lows owners keys slots lens values nameLens names counts places mail) k h → r ≡ movable h lo hi
+  pub is : (slots lens values name_lens names counts places mail : List ℕ) (h : Host)
+      → Core (memory lows owners keys slots lens values name_lens names counts places mail) k h → r ≡ movable h lo hi
 
 -- giving the range to host i would leave so many bounds, and r says whether there is room for them
 pub record Fits (lows owners : List ℕ) (bounds : ℕ) (lo hi : Bound) (i : ℕ) (r : Bool) : Type 0 where

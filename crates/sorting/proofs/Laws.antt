@@ -19,36 +19,36 @@ use Rattle.sorting.specs.Answers.{AfterSort}
 abbrev destination : List ℕ → Part → Address
 destination s to = take (to.at + to.len - to.at) (drop to.at s)
 
-own_as : {nameLens names : List ℕ} {k : State} (s : List ℕ) (to : Part) {r t : Bool} → Own nameLens names k (destination s to) r → r ≡ t
-    → Own nameLens names k (bytes_of s to) t
-own_as {nameLens} {names} {k} s to {r} O e =
-    subst (λ (b : Bool). Own nameLens names k (bytes_of s to) b) e
-    (subst (λ (x : Address). Own nameLens names k x r) (part_taken s to.at to.len) O)
+own_as : {name_lens names : List ℕ} {k : State} (s : List ℕ) (to : Part) {r t : Bool} → Own name_lens names k (destination s to) r → r ≡ t
+    → Own name_lens names k (bytes_of s to) t
+own_as {name_lens} {names} {k} s to {r} O e =
+    subst (λ (b : Bool). Own name_lens names k (bytes_of s to) b) e
+    (subst (λ (x : Address). Own name_lens names k x r) (part_taken s to.at to.len) O)
 
-module _ {nameLens names counts : List ℕ} {k : State} {a : Address} {s : List ℕ} {n : ℕ} {to : Part} where
-  module _ {own : Bool} (D : Own nameLens names k (destination s to) own) where
-    pub elsewhere : own ≡ false → AfterSort nameLens names counts k a s n to Elsewhere
+module _ {name_lens names counts : List ℕ} {k : State} {a : Address} {s : List ℕ} {n : ℕ} {to : Part} where
+  module _ {own : Bool} (D : Own name_lens names k (destination s to) own) where
+    pub elsewhere : own ≡ false → AfterSort name_lens names counts k a s n to Elsewhere
     elsewhere o = record {
       is = λ lows owners keys slots lens values places mail h C p.
           (own_as s to D o).other refl lows owners keys slots lens values counts places mail h C;
     }
 
-    module _ (o : own ≡ true) {last : ℕ} (L : Last nameLens names counts k a last) where
-      pub again : n ≤ last → AfterSort nameLens names counts k a s n to Again
+    module _ (o : own ≡ true) {last : ℕ} (L : Last name_lens names counts k a last) where
+      pub again : n ≤ last → AfterSort name_lens names counts k a s n to Again
       again l = record {
         is = λ lows owners keys slots lens values places mail h C p.
             let f : last ≡ h.received a = L.is lows owners keys slots lens values places mail h C in
             ((own_as s to D o).yes refl lows owners keys slots lens values counts places mail h C, omega (arith, l, f));
       }
 
-      pub future : last < n → (n - last ≡ 1 → ⊥) → AfterSort nameLens names counts k a s n to Future
+      pub future : last < n → (n - last ≡ 1 → ⊥) → AfterSort name_lens names counts k a s n to Future
       future l v = record {
         is = λ lows owners keys slots lens values places mail h C p.
             let f : last ≡ h.received a = L.is lows owners keys slots lens values places mail h C in
             ((own_as s to D o).yes refl lows owners keys slots lens values counts places mail h C, omega (arith, l, v, f));
       }
 
-      pub next : {i : ℕ} → last < n → n - last ≡ 1 → AfterSort nameLens names counts k a s n to (Next i)
+      pub next : {i : ℕ} → last < n → n - last ≡ 1 → AfterSort name_lens names counts k a s n to (Next i)
       next l v = record {
         is = λ lows owners keys slots lens values places mail h C p.
             let f : last ≡ h.received a = L.is lows owners keys slots lens values places mail h C in

@@ -19,6 +19,6 @@ Sorted Future h a d n = (d ≡ h.me) × (suc (h.received a) < n)
 Sorted (Next i) h a d n = (d ≡ h.me) × (n ≡ suc (h.received a))
 
 -- this holds of every host that memory keeps, if the destination stands in the datagram
-pub record AfterSort (nameLens names counts : List ℕ) (k : State) (a : Address) (s : List ℕ) (n : ℕ) (to : Part) (r : Kind) : Type 0 where
+pub record AfterSort (name_lens names counts : List ℕ) (k : State) (a : Address) (s : List ℕ) (n : ℕ) (to : Part) (r : Kind) : Type 0 where
   pub is : (lows owners keys slots lens values places mail : List ℕ) (h : Host)
-      → Core (memory lows owners keys slots lens values nameLens names counts places mail) k h → PartIn s to → Sorted r h a (bytes_of s to) n
+      → Core (memory lows owners keys slots lens values name_lens names counts places mail) k h → PartIn s to → Sorted r h a (bytes_of s to) n

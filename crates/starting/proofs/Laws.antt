@@ -10,7 +10,7 @@ use native.Mathlib.Omega.{arith}
 use lib.ListN.{length, get_or}
 use lib.Dec.{eqb}
 use borrow.Author.Tests.{eqb-true}
-use Rattle.limits.specs.Limits.{bytesMax}
+use Rattle.limits.specs.Limits.{bytes_max}
 use Rattle.message.specs.Message.{Address}
 use Rattle.memory.proofs.Parts.{length_part}
 use Rattle.strings.specs.Strings.{WellFormed, Inside, NoneLonger}
@@ -64,14 +64,14 @@ module _ {ats lens bytes : List ℕ} {n : ℕ} {me : Address} where
       (λ W. let s = D.no e W in none_alike (string ats lens bytes) n me s.0 s.1 s.2 s.3 s.4)
 
   -- one is too long
-  pub lengthy : {r : Bool} → NoneLonger lens n (bytesMax - 1) r → r ≡ false → Own ats lens bytes n me n
+  pub lengthy : {r : Bool} → NoneLonger lens n (bytes_max - 1) r → r ≡ false → Own ats lens bytes n me n
   lengthy T e =
       none_starts
       (λ W. none_long (string ats lens bytes) n me (λ f. one_longer T e (λ i p. omega (arith, f i p, length_string bytes W i p))))
 
   -- the list is in order, and the own address was looked for
   pub sought : {q : Bool} {p : ℕ} → WellFormed ats lens n (length bytes) → Distinct ats lens n bytes q → q ≡ true
-      → NoLonger lens n (bytesMax - 1) → Place ats lens bytes n me p → Own ats lens bytes n me p
+      → NoLonger lens n (bytes_max - 1) → Place ats lens bytes n me p → Own ats lens bytes n me p
   sought {q} {p} W D e L P = record {
     within = P.within;
     starts = λ h. record {
@@ -95,8 +95,8 @@ rejoined N i j = go (eqb j i) refl
 
 module _ {L M width : ℕ} {ats lens bytes : List ℕ} {n : ℕ} (E : Enlists L M width ats lens bytes n) where
   -- none yet
-  pub enlisted_none : (nameLens names : List ℕ) → KeepsNames nameLens names width 0 (string ats lens bytes)
-  enlisted_none nameLens names = record {
+  pub enlisted_none : (name_lens names : List ℕ) → KeepsNames name_lens names width 0 (string ats lens bytes)
+  enlisted_none name_lens names = record {
     wide = E.wide;
     fits_lens = omega arith;
     fits_names = omega arith;
@@ -106,12 +106,12 @@ module _ {L M width : ℕ} {ats lens bytes : List ℕ} {n : ℕ} (E : Enlists L 
   }
 
   -- one more: none of the reasons for which an address is refused holds
-  module _ {nameLens names : List ℕ} {i : ℕ} (h : i < n) (l : length nameLens ≡ L) (m : length names ≡ M)
-      (K : KeepsNames nameLens names width i (string ats lens bytes)) where
+  module _ {name_lens names : List ℕ} {i : ℕ} (h : i < n) (l : length name_lens ≡ L) (m : length names ≡ M)
+      (K : KeepsNames name_lens names width i (string ats lens bytes)) where
     abbrev N : ℕ → Address
     N = string ats lens bytes
 
-    pub enlisted_more : {nameLens' names' : List ℕ} (r : Added) → AfterAdd nameLens names width i (string ats lens bytes i) r nameLens' names'
+    pub enlisted_more : {nameLens' names' : List ℕ} (r : Added) → AfterAdd name_lens names width i (string ats lens bytes i) r nameLens' names'
         → KeepsNames nameLens' names' width (i + 1) (string ats lens bytes)
     enlisted_more (At j) A =
         let D = E.listed.distinct in
@@ -125,15 +125,15 @@ module _ {L M width : ℕ} {ats lens bytes : List ℕ} {n : ℕ} (E : Enlists L 
           distinct = λ x y p q e. D x y (omega arith) (omega arith) e;
         }
     enlisted_more Full A =
-        let f : n ≤ namePlaces nameLens names width =
+        let f : n ≤ namePlaces name_lens names width =
         le-min (omega (arith, E.fits_lens)) ((le-div_iff_mul-le E.wide).1 (omega (arith, E.fits_names))) in
         absurd (omega (arith, f, A.is.2 E.wide))
     enlisted_more TooLong A = absurd (omega (arith, A.is.2, E.short i h, length_string bytes E.listed.formed i h))
 
 -- all of them
-pub enlisted : {nameLens names : List ℕ} {width i n : ℕ} {N : ℕ → Address} → i ≡ n → KeepsNames nameLens names width i N
-    → KeepsNames nameLens names width n N
-enlisted {nameLens} {names} {width} {N = N} e K = subst (λ x. KeepsNames nameLens names width x N) e K
+pub enlisted : {name_lens names : List ℕ} {width i n : ℕ} {N : ℕ → Address} → i ≡ n → KeepsNames name_lens names width i N
+    → KeepsNames name_lens names width n N
+enlisted {name_lens} {names} {width} {N = N} e K = subst (λ x. KeepsNames name_lens names width x N) e K
 
 -- ---- what each layer holds at first
 
@@ -161,7 +161,7 @@ post_ready false A s h = absurd ((A.unfit refl).2 s)
 -- the lengths of memory serve
 abbrev pub Long : Memory → (room : List ℕ) → (width size n : ℕ) → Type 0
 Long m room width size n =
-    Lengths (length m.lows) (length m.owners) (length m.keys) (length m.slots) (length m.lens) (length m.values) (length m.nameLens) (length m.names) (length m.counts) (length m.places) (length m.mail) (length room) width size n
+    Lengths (length m.lows) (length m.owners) (length m.keys) (length m.slots) (length m.lens) (length m.values) (length m.name_lens) (length m.names) (length m.counts) (length m.places) (length m.mail) (length room) width size n
 
 long : {m : Memory} {room : List ℕ} {width size n : ℕ} {f : ℕ → ℕ} → Serves m room width size n f → Long m room width size n
 long S = record {
@@ -178,10 +178,10 @@ long S = record {
 
 -- ---- the host
 
-fresh_core : {lows owners keys slots lens values nameLens names counts places mail : List ℕ} {own n width size bounds : ℕ} {N : ℕ → Address}
-    {me : Address} → Sized width size → KeepsNames nameLens names width n N → KeepsMap lows owners bounds (λ k. 0)
+fresh_core : {lows owners keys slots lens values name_lens names counts places mail : List ℕ} {own n width size bounds : ℕ} {N : ℕ → Address}
+    {me : Address} → Sized width size → KeepsNames name_lens names width n N → KeepsMap lows owners bounds (λ k. 0)
     → KeepsTable keys slots lens values 0 empty → KeepsPost counts places mail size n nothing → own < n → N own ≡ me
-    → Core (memory lows owners keys slots lens values nameLens names counts places mail) (begun own n width size bounds) (fresh (N 0) (firsts N n) me)
+    → Core (memory lows owners keys slots lens values name_lens names counts places mail) (begun own n width size bounds) (fresh (N 0) (firsts N n) me)
 fresh_core {N = N} Z K F T P h e = record {
   N = N;
   f = λ k. 0;
@@ -240,19 +240,19 @@ module _ {ats addressLens bytes : List ℕ} {own n : ℕ} {me : Address} (O : Ow
     }
 
     -- the addresses fit
-    pub enlists : {lows owners keys slots lens values nameLens names counts places mail room width size : ℕ}
-        → Lengths lows owners keys slots lens values nameLens names counts places mail room width size n → NoLonger addressLens n width
-        → Enlists nameLens names width ats addressLens bytes n
+    pub enlists : {lows owners keys slots lens values name_lens names counts places mail room width size : ℕ}
+        → Lengths lows owners keys slots lens values name_lens names counts places mail room width size n → NoLonger addressLens n width
+        → Enlists name_lens names width ats addressLens bytes n
     enlists L s = record { listed = listed; wide = L.datagrams.wide; fits_lens = L.fits_lens; fits_names = L.fits_names; short = s }
 
     -- all is written
-    pub started : {lows owners keys slots lens values nameLens names counts places mail room : List ℕ} {width size : ℕ}
+    pub started : {lows owners keys slots lens values name_lens names counts places mail room : List ℕ} {width size : ℕ}
         {lows' owners' slots' nameLens' names' counts' places' : List ℕ} {bounds : ℕ} {k : State} {r q : Bool}
-        → Long (memory lows owners keys slots lens values nameLens names counts places mail) room width size n
+        → Long (memory lows owners keys slots lens values name_lens names counts places mail) room width size n
         → KeepsMap lows' owners' bounds (λ x. 0) → TableStarted keys slots lens values r slots'
         → PostStarted counts places mail size q counts' places' → KeepsNames nameLens' names' width n (string ats addressLens bytes)
         → k ≡ begun own n width size bounds
-        → AfterStart (memory lows owners keys slots lens values nameLens names counts places mail) room width size ats addressLens bytes n me (Now k) (memory lows' owners' keys slots' lens values nameLens' names' counts' places' mail)
+        → AfterStart (memory lows owners keys slots lens values name_lens names counts places mail) room width size ats addressLens bytes n me (Now k) (memory lows' owners' keys slots' lens values nameLens' names' counts' places' mail)
     started {keys = keys} {lens = lens} {values = values} {places = places} {mail = mail} {room = room} {size = size} {lows' = lows'} {owners' = owners'} {slots' = slots'} {nameLens' = nameLens'} {names' = names'} {counts' = counts'} {places' = places'} {r = r} {q = q} L F T P K e =
         let N = string ats addressLens bytes in
         let S = O.starts within in

@@ -9,7 +9,7 @@ use native.Mathlib.Omega.{arith}
 use lib.ListN.{length}
 use lib.Dec.{ltb}
 use borrow.Author.Tests.{ltb-true, lt-ltb}
-use Rattle.limits.specs.Limits.{bytesMax}
+use Rattle.limits.specs.Limits.{bytes_max}
 use Rattle.message.specs.Message.{Address}
 use Rattle.protocol.specs.Address.{among}
 use Rattle.protocol.specs.State.{different, short, fresh, start}
@@ -49,18 +49,18 @@ alike N (suc n) (suc i) (suc j) p q e =
 
 -- ---- each short enough
 
-brief : (N : ℕ → Address) (n : ℕ) → ((i : ℕ) → i < n → length (N i) < bytesMax) → short (firsts N n) ≡ true
+brief : (N : ℕ → Address) (n : ℕ) → ((i : ℕ) → i < n → length (N i) < bytes_max) → short (firsts N n) ≡ true
 brief N zero h = refl
 brief N (suc n) h =
     ap short (firsts_cons N n)
-    ∙ ap₂ (λ (u v : Bool). u && v) (lt-ltb (length (N 0)) bytesMax (h 0 (omega arith))) (brief (λ i. N (suc i)) n (λ i p. h (suc i) (omega arith)))
+    ∙ ap₂ (λ (u v : Bool). u && v) (lt-ltb (length (N 0)) bytes_max (h 0 (omega arith))) (brief (λ i. N (suc i)) n (λ i p. h (suc i) (omega arith)))
 
-all_brief : (N : ℕ → Address) (n : ℕ) → short (firsts N n) ≡ true → (i : ℕ) → i < n → length (N i) < bytesMax
+all_brief : (N : ℕ → Address) (n : ℕ) → short (firsts N n) ≡ true → (i : ℕ) → i < n → length (N i) < bytes_max
 all_brief N zero e i p = absurd (omega arith)
 all_brief N (suc n) e zero p =
-    ltb-true (length (N 0)) bytesMax ((and-eq-true_iff (ltb (length (N 0)) bytesMax) (short (firsts (λ k. N (suc k)) n))).0 (sym (ap short (firsts_cons N n)) ∙ e)).0
+    ltb-true (length (N 0)) bytes_max ((and-eq-true_iff (ltb (length (N 0)) bytes_max) (short (firsts (λ k. N (suc k)) n))).0 (sym (ap short (firsts_cons N n)) ∙ e)).0
 all_brief N (suc n) e (suc i) p =
-    all_brief (λ k. N (suc k)) n ((and-eq-true_iff (ltb (length (N 0)) bytesMax) (short (firsts (λ k. N (suc k)) n))).0 (sym (ap short (firsts_cons N n)) ∙ e)).1 i (omega arith)
+    all_brief (λ k. N (suc k)) n ((and-eq-true_iff (ltb (length (N 0)) bytes_max) (short (firsts (λ k. N (suc k)) n))).0 (sym (ap short (firsts_cons N n)) ∙ e)).1 i (omega arith)
 
 -- ---- starting
 
@@ -84,7 +84,7 @@ module _ (N : ℕ → Address) (n : ℕ) (me : Address) where
       none_if (firsts N n) me (ap (λ (t : Bool). t && (short (firsts N n) && among me (firsts N n))) (alike N n i j p q e))
 
   -- one is too long
-  pub none_long : (((i : ℕ) → i < n → length (N i) < bytesMax) → ⊥) → start (firsts N n) me ≡ none
+  pub none_long : (((i : ℕ) → i < n → length (N i) < bytes_max) → ⊥) → start (firsts N n) me ≡ none
   none_long f = go (short (firsts N n)) refl
     where
       go : (t : Bool) → short (firsts N n) ≡ t → start (firsts N n) me ≡ none
@@ -102,7 +102,7 @@ module _ (N : ℕ → Address) (n : ℕ) (me : Address) where
       ∙ and-false (different (firsts N n)))
 
   -- all is well
-  pub one_starts : ((i j : ℕ) → i < n → j < n → N i ≡ N j → i ≡ j) → ((i : ℕ) → i < n → length (N i) < bytesMax) → (i : ℕ) → i < n → N i ≡ me
+  pub one_starts : ((i j : ℕ) → i < n → j < n → N i ≡ N j → i ≡ j) → ((i : ℕ) → i < n → length (N i) < bytes_max) → (i : ℕ) → i < n → N i ≡ me
       → start (firsts N n) me ≡ some (fresh (N 0) (firsts N n) me)
   one_starts d b i p e =
       let t : starts (firsts N n) me ≡ true =

@@ -2,7 +2,7 @@
 -- Assumes nothing.
 use Rattle.std.specs.Prelude.{◌≡◌, List, ℕ, ◌*◌, ◌≤◌, ◌<◌, length}
 use Rattle.std.proofs.Math.Option.{none, some}
-use Rattle.limits.specs.Limits.{datagramMin}
+use Rattle.limits.specs.Limits.{datagram_min}
 use Rattle.message.specs.Message.{Address}
 use Rattle.strings.specs.Strings.{WellFormed}
 use Rattle.distinct.specs.Distinct.{string}
@@ -23,11 +23,11 @@ addresses ats lens bytes n = firsts (string ats lens bytes) n
 -- size that document 01 names, there is a place for each host, for a bound and for a waiting message, and the slices of each layer fit together
 pub record Serves (m : Memory) (room : List ℕ) (width size n : ℕ) (addressLens : ℕ → ℕ) : Type 0 where
   pub sized : Sized width size
-  pub least : datagramMin ≤ size
+  pub least : datagram_min ≤ size
   pub room_fits : size ≤ length room
   pub wide : 0 < width
   pub short : (i : ℕ) → i < n → addressLens i ≤ width
-  pub name_lens : n ≤ length m.nameLens
+  pub name_lens : n ≤ length m.name_lens
   pub names : n * width ≤ length m.names
   pub counts : n * 3 ≤ length m.counts
   pub lows : 0 < length m.lows

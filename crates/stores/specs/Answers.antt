@@ -2,7 +2,7 @@
 -- Assumes nothing.
 use Rattle.std.specs.Prelude.{◌≡◌, List, ℕ, ◌<◌, length}
 use Rattle.std.proofs.Math.Option.{none, some}
-use Rattle.limits.specs.Limits.{valueMax}
+use Rattle.limits.specs.Limits.{value_max}
 use Rattle.records.specs.Table.{Value, Table, put}
 use Rattle.records.specs.Memory.{Keeps}
 use Rattle.stores.specs.declared.Stored.{Stored}
@@ -16,7 +16,7 @@ SetCases Full keys slots lens values n key v keys' slots' lens' values' =
     (keys' ≡ keys) × (slots' ≡ slots) × (lens' ≡ lens) × (values' ≡ values)
     × ((T : Table) → Keeps keys slots lens values n T → (T key ≡ none) × (n ≡ length slots))
 SetCases TooLong keys slots lens values n key v keys' slots' lens' values' =
-    (keys' ≡ keys) × (slots' ≡ slots) × (lens' ≡ lens) × (values' ≡ values) × (valueMax < length v)
+    (keys' ≡ keys) × (slots' ≡ slots) × (lens' ≡ lens) × (values' ≡ values) × (value_max < length v)
 
 pub record AfterSet (keys slots lens values : List ℕ) (n key : ℕ) (v : Value) (r : Stored) (keys' slots' lens' values' : List ℕ)
     : Type 0 where

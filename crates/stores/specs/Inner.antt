@@ -2,7 +2,7 @@
 -- Assumes nothing.
 use Rattle.std.specs.Prelude.{◌≡◌, Bool, true, false, List, ℕ, ◌*◌, ◌<◌, length, get_or, set}
 use Rattle.std.proofs.Math.Option.{some}
-use Rattle.limits.specs.Limits.{valueMax}
+use Rattle.limits.specs.Limits.{value_max}
 use Rattle.memory.specs.Bytes.{placed}
 use Rattle.columns.specs.Column.{Splits}
 use Rattle.records.specs.Table.{Value, Table, put}
@@ -14,7 +14,7 @@ use Rattle.stores.specs.declared.Stored.TheVariants.{Entries, Full, TooLong}
 -- the value stands in the slot of place i
 pub record Written (slots lens values : List ℕ) (i : ℕ) (v : Value) (r : Bool) (lens' values' : List ℕ) : Type 0 where
   pub done : r ≡ true
-      → Room slots lens values i × (lens' ≡ set lens (get_or slots i 0) (length v)) × (values' ≡ placed values (get_or slots i 0 * valueMax) v)
+      → Room slots lens values i × (lens' ≡ set lens (get_or slots i 0) (length v)) × (values' ≡ placed values (get_or slots i 0 * value_max) v)
   pub refused : r ≡ false → (lens' ≡ lens) × (values' ≡ values) × (Room slots lens values i → ⊥)
 
 abbrev pub AddCases : Stored → (keys slots lens values : List ℕ) → (n p key : ℕ) → Value → (keys' slots' lens' values' : List ℕ) → Type 0
@@ -32,7 +32,7 @@ pub record AfterAdd (keys slots lens values : List ℕ) (n p key : ℕ) (v : Val
 
 abbrev pub RenewCases : Stored → (slots lens values : List ℕ) → (n i : ℕ) → Value → (lens' values' : List ℕ) → Type 0
 RenewCases (Entries m) slots lens values n i v lens' values' =
-    (m ≡ n) × Room slots lens values i × (lens' ≡ set lens (get_or slots i 0) (length v)) × (values' ≡ placed values (get_or slots i 0 * valueMax) v)
+    (m ≡ n) × Room slots lens values i × (lens' ≡ set lens (get_or slots i 0) (length v)) × (values' ≡ placed values (get_or slots i 0 * value_max) v)
 RenewCases Full slots lens values n i v lens' values' = (lens' ≡ lens) × (values' ≡ values) × (Room slots lens values i → ⊥)
 RenewCases TooLong slots lens values n i v lens' values' = ⊥
 

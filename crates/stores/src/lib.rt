@@ -3,7 +3,7 @@
 #![tactic(auto)]
 
 ghost use Rattle.std.specs.Prelude.{◌≤◌, length};
-ghost use Rattle.limits.specs.Limits.{valueMax};
+ghost use Rattle.limits.specs.Limits.{value_max};
 ghost use Rattle.records.specs.Memory.{Shape};
 ghost use Rattle.stores.specs.Answers.{AfterSet};
 ghost use Rattle.stores.specs.Inner.{Written, AfterAdd, AfterRenew};
@@ -55,7 +55,7 @@ fn renew(
     i: usize,
     value: &[u8],
 ) -> Stored
-    requires { length value.now ≤ valueMax }
+    requires { length value.now ≤ value_max }
     ensures { AfterRenew slots.now lens.old values.old n i value.now result
         lens.new values.new }
 {
@@ -76,7 +76,7 @@ fn add(
     key: u64,
     value: &[u8],
 ) -> Stored
-    requires { Shape (length keys.old) (length slots.old) (length lens.old) (length values.old) n × (p ≤ n) × (length value.now ≤ valueMax) }
+    requires { Shape (length keys.old) (length slots.old) (length lens.old) (length values.old) n × (p ≤ n) × (length value.now ≤ value_max) }
     ensures { AfterAdd keys.old slots.old lens.old values.old n p key value.now result
         keys.new slots.new lens.new values.new }
 {
@@ -94,7 +94,7 @@ fn add(
 
 // Writes the value into the slot of place i. Refused only where memory keeps no table.
 fn write(slots: &[u64], lens: &mut [u64], values: &mut [u8], i: usize, value: &[u8]) -> bool
-    requires { length value.now ≤ valueMax }
+    requires { length value.now ≤ value_max }
     ensures { Written slots.now lens.old values.old i value.now result
         lens.new values.new }
 {

@@ -9,7 +9,7 @@ use native.Mathlib.Omega.{arith}
 use lib.ListN.{length}
 use lib.Dec.{ltb}
 use borrow.Author.Tests.{lt-ltb, le-ltb, ltb-false}
-use Rattle.limits.specs.Limits.{valueMax, numbers}
+use Rattle.limits.specs.Limits.{value_max, numbers}
 use Rattle.message.specs.Message.{reply}
 use Rattle.records.specs.Table.{Table, put}
 use Rattle.records.specs.Memory.{Keeps}
@@ -19,11 +19,11 @@ use Rattle.stores.specs.declared.Stored.TheVariants.{Entries, Full, TooLong}
 use Rattle.stores.specs.Answers.{AfterSet}
 use Rattle.decoding.specs.Decode.{same}
 use Rattle.sending.specs.Answers.{AfterSend}
-use Rattle.protocol.specs.Owners.{ownerOf}
+use Rattle.protocol.specs.Owners.{owner_of}
 use Rattle.protocol.specs.Records.{Value, look, setting}
 use Rattle.protocol.specs.State.{Host, Letter, done}
 use Rattle.protocol.specs.Delivery.{numbered, stored, replied}
-use Rattle.protocol.specs.Process.{long, keeping, onSet, answering}
+use Rattle.protocol.specs.Process.{long, keeping, on_set, answering}
 use Rattle.protocol.proofs.Entries.{above_setting}
 use Rattle.hosts.specs.declared.State.{State}
 use Rattle.hosts.specs.declared.Done.{Done}
@@ -31,8 +31,8 @@ use Rattle.hosts.specs.declared.Processed.{Processed}
 use Rattle.hosts.specs.declared.Processed.TheVariants.{Replied, Dropped}
 use Rattle.hosts.specs.Memory.{Memory}
 use Rattle.hosts.specs.Keeps.{Core}
-use Rattle.hosts.specs.Limits.{isThere, fitsValue}
-use Rattle.hosts.specs.Answers.{emptied, filled, sentOr, droppedOf, Does}
+use Rattle.hosts.specs.Limits.{is_there, fits_value}
+use Rattle.hosts.specs.Answers.{emptied, filled, sent_or, dropped_of, Does}
 use Rattle.hosts.proofs.Sizes.{ShortValue, reply_good, reply_fits}
 use Rattle.hosts.proofs.Tables.{keeps_length, put_is}
 use Rattle.hosts.proofs.Core.{mailed, tabled, core_stored, does_dropped, name_short, has_number, answered}
@@ -46,24 +46,24 @@ stored_as {keys} {slots} {lens} {values} {n} {key} {v} {keys'} {slots'} {lens'} 
 
 -- the definition's step for a key of the host's own and a value that is not too long, by whether it fits
 row_as : (m M : Memory) (K : State) (R : Processed) (h : Host) (l : Letter) (key : ℕ) (v : Option Value) (fits : Bool) → long v ≡ false
-    → same (ownerOf h.owners key) h.me ≡ true → fitsValue (length m.slots) h key v ≡ fits
+    → same (owner_of h.owners key) h.me ≡ true → fits_value (length m.slots) h key v ≡ fits
     → Does M K R (keeping (numbered h l.from) fits h l key v) → Does M K R (row m key v h l)
 row_as m M K R h l key v fits s o f D =
-    subst (λ (t : Bool). Does M K R (onSet t (same (ownerOf h.owners key) h.me) (fitsValue (length m.slots) h key v) h l key v)) (sym s)
-    (subst (λ (t : Bool). Does M K R (onSet false t (fitsValue (length m.slots) h key v) h l key v)) (sym o)
-    (subst (λ (t : Bool). Does M K R (onSet false true t h l key v)) (sym f) D))
+    subst (λ (t : Bool). Does M K R (on_set t (same (owner_of h.owners key) h.me) (fits_value (length m.slots) h key v) h l key v)) (sym s)
+    (subst (λ (t : Bool). Does M K R (on_set false t (fits_value (length m.slots) h key v) h l key v)) (sym o)
+    (subst (λ (t : Bool). Does M K R (on_set false true t h l key v)) (sym f) D))
 
 -- a value that is not too long is one that a table keeps
 short_value : (v : Option Value) → long v ≡ false → ShortValue v
 short_value none e = tt
-short_value (some v) e = ltb-false valueMax (length v) e
+short_value (some v) e = ltb-false value_max (length v) e
 
 module _ {m : Memory} {k : State} {key : ℕ} {v : Option Value} {p x n : ℕ} {keys slots lens values counts places mail : List ℕ} where
   settled : x < numbers → key < numbers
       → ((T : Table) → Keeps m.keys m.slots m.lens m.values k.entries T → Keeps keys slots lens values n (put key v T))
-      → ((h : Host) → Core m k h → fitsValue (length m.slots) h key v ≡ true) → (sent : Bool)
-      → AfterSend m.nameLens m.names k.width m.counts m.places m.mail k.size k.from p x (λ n. Unit) (λ N. reply key v) sent counts places mail
-      → AfterStore m k key v p x (sentOr (filled k n) sent (Replied p)) (mailed (tabled m keys slots lens values) counts places mail)
+      → ((h : Host) → Core m k h → fits_value (length m.slots) h key v ≡ true) → (sent : Bool)
+      → AfterSend m.name_lens m.names k.width m.counts m.places m.mail k.size k.from p x (λ n. Unit) (λ N. reply key v) sent counts places mail
+      → AfterStore m k key v p x (sent_or (filled k n) sent (Replied p)) (mailed (tabled m keys slots lens values) counts places mail)
   settled small key-small tables fits true S = record {
     is = record {
       freed = refl;
@@ -100,12 +100,12 @@ module _ {m : Memory} {k : State} {key : ℕ} {v : Option Value} {p x n : ℕ} {
 
   pub settled_as : {sent : Bool} {r : Done} {f : State} → x < numbers → key < numbers
       → ((T : Table) → Keeps m.keys m.slots m.lens m.values k.entries T → Keeps keys slots lens values n (put key v T))
-      → ((h : Host) → Core m k h → fitsValue (length m.slots) h key v ≡ true)
-      → AfterSend m.nameLens m.names k.width m.counts m.places m.mail k.size k.from p x (λ n. Unit) (λ N. reply key v) sent counts places mail
-      → f ≡ filled k n → r ≡ sentOr f sent (Replied p) → AfterStore m k key v p x r (mailed (tabled m keys slots lens values) counts places mail)
+      → ((h : Host) → Core m k h → fits_value (length m.slots) h key v ≡ true)
+      → AfterSend m.name_lens m.names k.width m.counts m.places m.mail k.size k.from p x (λ n. Unit) (λ N. reply key v) sent counts places mail
+      → f ≡ filled k n → r ≡ sent_or f sent (Replied p) → AfterStore m k key v p x r (mailed (tabled m keys slots lens values) counts places mail)
   settled_as {sent} {r} {f} small key-small tables fits S e q =
       subst (λ (d : Done). AfterStore m k key v p x d (mailed (tabled m keys slots lens values) counts places mail))
-      (ap (λ (g : State). sentOr g sent (Replied p)) (sym e) ∙ sym q)
+      (ap (λ (g : State). sent_or g sent (Replied p)) (sym e) ∙ sym q)
       (settled small key-small tables fits sent S)
 
 -- ---- does the value fit?
@@ -113,10 +113,10 @@ module _ {m : Memory} {k : State} {key : ℕ} {v : Option Value} {p x n : ℕ} {
 module _ {m : Memory} {k : State} {key n : ℕ} {v : Value} {keys slots lens values : List ℕ} where
   -- what was stored fits
   pub stored_fits : AfterSet m.keys m.slots m.lens m.values k.entries key v (Entries n) keys slots lens values → length slots ≡ length m.slots
-      → (h : Host) → Core m k h → fitsValue (length m.slots) h key (some v) ≡ true
+      → (h : Host) → Core m k h → fits_value (length m.slots) h key (some v) ≡ true
   stored_fits A long h C = go (look key h.records) refl
     where
-      go : (w : Option Value) → look key h.records ≡ w → cond (isThere w) true (ltb (length h.records) (length m.slots)) ≡ true
+      go : (w : Option Value) → look key h.records ≡ w → cond (is_there w) true (ltb (length h.records) (length m.slots)) ≡ true
       go none e =
           let K = A.is C.T C.table_kept in
           let c = keeps_length C.T h.records C.says.record_is C.says.sorted _ _ _ _ _ C.table_kept in
@@ -137,7 +137,7 @@ tabled_same m keys slots lens values a b c d =
 
 module _ {m : Memory} {k : State} {key p x : ℕ} {v : Value} {keys slots lens values : List ℕ} {r : Done} where
   -- a key that is new to a full table is dropped
-  pub drops : x < numbers → AfterSet m.keys m.slots m.lens m.values k.entries key v Full keys slots lens values → r ≡ droppedOf k
+  pub drops : x < numbers → AfterSet m.keys m.slots m.lens m.values k.entries key v Full keys slots lens values → r ≡ dropped_of k
       → AfterStore m k key (some v) p x r (tabled m keys slots lens values)
   drops small A e =
       subst (λ (M : Memory). AfterStore m k key (some v) p x r M)
@@ -150,7 +150,7 @@ module _ {m : Memory} {k : State} {key p x : ℕ} {v : Value} {keys slots lens v
               let w = A.is.4 C.T C.table_kept in
               let c = keeps_length C.T h.records C.says.record_is C.says.sorted _ _ _ _ _ C.table_kept in
               let u : look key h.records ≡ none = sym (C.says.record_is key) ∙ w.0 in
-              let f : fitsValue (length m.slots) h key (some v) ≡ false =
+              let f : fits_value (length m.slots) h key (some v) ≡ false =
               rw u (le-ltb (length h.records) (length m.slots) (omega (arith, c, w.1))) in
               let t : numbered h l.from ≡ true = has_number m k h C k.from H.from_in l.from H.from_is x (Q.picked.number_is C) small in
               row_as m m (emptied k) Dropped h l key (some v) false Q.short Q.own f
@@ -159,11 +159,11 @@ module _ {m : Memory} {k : State} {key p x : ℕ} {v : Value} {keys slots lens v
       }))
 
   -- a value that is not too long is not refused as too long
-  pub never_long : AfterSet m.keys m.slots m.lens m.values k.entries key v TooLong keys slots lens values → r ≡ droppedOf k
+  pub never_long : AfterSet m.keys m.slots m.lens m.values k.entries key v TooLong keys slots lens values → r ≡ dropped_of k
       → AfterStore m k key (some v) p x r (tabled m keys slots lens values)
   never_long A e = record {
     is = record {
       freed = ap (λ (d : Done). d.state.len) e;
-      is = λ h l C H Q. absurd (omega (arith, A.is.4, ltb-false valueMax (length v) Q.short));
+      is = λ h l C H Q. absurd (omega (arith, A.is.4, ltb-false value_max (length v) Q.short));
     };
   }

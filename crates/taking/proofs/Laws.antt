@@ -40,7 +40,7 @@ record Seated (m : Memory) (k : State) (h : Host) (a : Address) (x i n len : ℕ
 
 module _ (m : Memory) (k : State) (h : Host) (C : Core m k h) (a : Address) (x i n len : ℕ) (lens names counts counts' : List ℕ)
     (W : AfterCount counts i x counts') where
-  old_seat : Old m.nameLens m.names m.counts k.width k.peers a i n lens names counts → Seated m k h a x i n len lens names counts'
+  old_seat : Old m.name_lens m.names m.counts k.width k.peers a i n lens names counts → Seated m k h a x i n len lens names counts'
   old_seat O =
       let p = O.is C.N C.names_kept in
       let w : KeepsPost counts m.places m.mail k.size k.peers C.P =
@@ -55,7 +55,7 @@ module _ (m : Memory) (k : State) (h : Host) (C : Core m k h) (a : Address) (x i
       } in
       subst (λ (j : ℕ). Seated m k h a x i j len lens names counts') (sym O.as_many) R
 
-  new_seat : Strange C.N k.peers a → New m.nameLens m.names m.counts k.width k.peers a i n lens names counts
+  new_seat : Strange C.N k.peers a → New m.name_lens m.names m.counts k.width k.peers a i n lens names counts
       → Seated m k h a x i n len lens names counts'
   new_seat s O =
       let L = O.keeps_names C.N C.names_kept s in
@@ -71,7 +71,7 @@ module _ (m : Memory) (k : State) (h : Host) (C : Core m k h) (a : Address) (x i
       } in
       subst (λ (j : ℕ). Seated m k h a x i j len lens names counts') (sym O.one_more) R
 
-  seat_taken : AfterSeat m.nameLens m.names m.counts k.width k.peers a (At i n) lens names counts → Seated m k h a x i n len lens names counts'
+  seat_taken : AfterSeat m.name_lens m.names m.counts k.width k.peers a (At i n) lens names counts → Seated m k h a x i n len lens names counts'
   seat_taken Z = ⊎_elim (λ o. old_seat o) (λ o. new_seat (o.0 C.N C.names_kept) o.1) Z.is
 
 -- the datagram stands in the room, from the peer i of n

@@ -3,7 +3,7 @@
 use Rattle.std.specs.Prelude.{◌≡◌, false, List, ℕ, min, ◌/◌, ◌≤◌, ◌<◌, length, take}
 use Rattle.message.specs.Message.{Address, Body}
 use Rattle.peers.specs.Names.{places}
-use Rattle.protocol.specs.Address.{among, withAddress, at}
+use Rattle.protocol.specs.Address.{among, with_address, at}
 use Rattle.protocol.specs.State.{Host, took}
 use Rattle.hosts.specs.declared.State.{State}
 use Rattle.hosts.specs.Memory.{memory, name_at}
@@ -12,12 +12,12 @@ use Rattle.taking.specs.declared.Taken.{Taken}
 use Rattle.taking.specs.declared.Taken.TheVariants.{Now, NoRoom}
 
 -- what stands in the room after the datagram s came from the address a: its length, its bytes, and the sender's number
-pub record InRoom (nameLens names : List ℕ) (k : State) (room s : List ℕ) (a : Address) : Type 0 where
+pub record InRoom (name_lens names : List ℕ) (k : State) (room s : List ℕ) (a : Address) : Type 0 where
   pub long : k.len ≡ length s
   pub fits : k.len ≤ length room
   pub bytes : take k.len room ≡ s
   pub from_in : k.from < k.peers
-  pub from_is : name_at nameLens names k.width k.from ≡ a
+  pub from_is : name_at name_lens names k.width k.from ≡ a
 
 -- the numbers that taking a message leaves as they were
 pub record Kept (k k' : State) : Type 0 where
@@ -32,19 +32,19 @@ pub record Kept (k k' : State) : Type 0 where
 
 -- The message with the number x was taken from the address a and stands in the room; or there is no room for the datagram or no place for a new
 -- peer, and nothing has changed
-abbrev pub TakeCases : Taken → (nameLens names counts room : List ℕ) → State → Address → ℕ → List ℕ → (nameLens' names' counts' room' : List ℕ) → Type 0
-TakeCases (Now k') nameLens names counts room k a x s nameLens' names' counts' room' =
+abbrev pub TakeCases : Taken → (name_lens names counts room : List ℕ) → State → Address → ℕ → List ℕ → (nameLens' names' counts' room' : List ℕ) → Type 0
+TakeCases (Now k') name_lens names counts room k a x s nameLens' names' counts' room' =
     (lows owners keys slots lens values places mail : List ℕ) (h : Host)
-    → Core (memory lows owners keys slots lens values nameLens names counts places mail) k h
+    → Core (memory lows owners keys slots lens values name_lens names counts places mail) k h
     → ((b : Body) → Core (memory lows owners keys slots lens values nameLens' names' counts' places mail) k'
-    (took a x b (withAddress a h.peers) (at a x h.received) h))
+    (took a x b (with_address a h.peers) (at a x h.received) h))
     × InRoom nameLens' names' k' room' s a × Kept k k'
-TakeCases NoRoom nameLens names counts room k a x s nameLens' names' counts' room' =
-    (nameLens' ≡ nameLens) × (names' ≡ names) × (counts' ≡ counts) × (room' ≡ room)
+TakeCases NoRoom name_lens names counts room k a x s nameLens' names' counts' room' =
+    (nameLens' ≡ name_lens) × (names' ≡ names) × (counts' ≡ counts) × (room' ≡ room)
     × ((lows owners keys slots lens values places' mail : List ℕ) (h : Host)
-    → Core (memory lows owners keys slots lens values nameLens names counts places' mail) k h → length s ≤ length room
-    → (among a h.peers ≡ false → (length a ≤ k.width) × (length h.peers < min (places nameLens names k.width) (length counts / 3))) → ⊥)
+    → Core (memory lows owners keys slots lens values name_lens names counts places' mail) k h → length s ≤ length room
+    → (among a h.peers ≡ false → (length a ≤ k.width) × (length h.peers < min (places name_lens names k.width) (length counts / 3))) → ⊥)
 
-pub record AfterTake (nameLens names counts room : List ℕ) (k : State) (a : Address) (x : ℕ) (s : List ℕ) (r : Taken)
+pub record AfterTake (name_lens names counts room : List ℕ) (k : State) (a : Address) (x : ℕ) (s : List ℕ) (r : Taken)
     (nameLens' names' counts' room' : List ℕ) : Type 0 where
-  pub is : TakeCases r nameLens names counts room k a x s nameLens' names' counts' room'
+  pub is : TakeCases r name_lens names counts room k a x s nameLens' names' counts' room'

@@ -13,19 +13,19 @@ use Rattle.protocol.specs.Turn.{kind, ended, by_kind}
 use Rattle.hosts.specs.declared.State.{State}
 use Rattle.hosts.specs.declared.Processed.{Processed}
 use Rattle.hosts.specs.Memory.{Memory, memory}
-use Rattle.hosts.specs.Limits.{fitsRoom}
+use Rattle.hosts.specs.Limits.{fits_room}
 use Rattle.hosts.specs.declared.Done.{Done}
 use Rattle.processing.specs.Answers.{Processes, AfterProcess}
 use Rattle.rounds.specs.declared.Turned.TheVariants.{Did, Unfit}
 use Rattle.rounds.specs.declared.Ended.{Ended}
-use Rattle.rounds.specs.Answers.{Turns, overOf, AfterAgain}
+use Rattle.rounds.specs.Answers.{Turns, over_of, AfterAgain}
 use Rattle.rounds.proofs.Laws.{keeps_over, sends_over}
 use Rattle.arriving.specs.Answers.{arriving, AfterArrive}
 use Rattle.turning.specs.Answers.{Lent, AfterTurn}
 
 module _ {m : Memory} {k : State} {room : List ℕ} {a : Address} {ack : List ℕ} where
   -- the message in the room was processed
-  pub did : {r : Processed} {s : Step} → Processes m k room r s → (out : List ℕ) → Turns m (overOf k) room a ack out (Did r) (ended s)
+  pub did : {r : Processed} {s : Step} → Processes m k room r s → (out : List ℕ) → Turns m (over_of k) room a ack out (Did r) (ended s)
   did {r} {s} R out = record { keeps = keeps_over m k room s.state R.keeps; outcome = R.outcome; sends = sends_over m k r ∙ R.sends }
 
 -- ---- the turn
@@ -43,13 +43,13 @@ module _ {m : Memory} {k : State} {room : List ℕ} {arrived : Bool} {a : Addres
           let z : kind h ≡ 0 = ap (λ (t : ℕ). t % 3) (sym K.core.turns_is) ∙ e in (
             R.0,
             (λ q w. R.1 w),
-            subst (λ (n : ℕ). Turns m' r.state room' a ack' out r.outcome (ended (by_kind n R.0 (fitsRoom (length m.slots) h h.room) h (arriving arrived a s)))) (sym z) R.2,
+            subst (λ (n : ℕ). Turns m' r.state room' a ack' out r.outcome (ended (by_kind n R.0 (fits_room (length m.slots) h h.room) h (arriving arrived a s)))) (sym z) R.2,
           );
       fit = λ l. A.fit L.ack_fits;
       refused = λ n. absurd (n L);
     }
 
-    pub processes : {m' : Memory} {d : Done} {f : State} {r : Ended} → k.turns % 3 ≡ 1 → AfterProcess m k room d m' → f ≡ overOf d.state → r ≡ record { state = f; outcome = Did d.outcome; place = 0 }
+    pub processes : {m' : Memory} {d : Done} {f : State} {r : Ended} → k.turns % 3 ≡ 1 → AfterProcess m k room d m' → f ≡ over_of d.state → r ≡ record { state = f; outcome = Did d.outcome; place = 0 }
         → AfterTurn m k room arrived a s ack out r m' room ack out
     processes {m'} {d} {f} {r} e A q w = subst (λ (t : Ended). AfterTurn m k room arrived a s ack out t m' room ack out)
         (ap (λ (g : State). record { state = g; outcome = Did d.outcome; place = 0 }) (sym q) ∙ sym w)
@@ -58,7 +58,7 @@ module _ {m : Memory} {k : State} {room : List ℕ} {arrived : Bool} {a : Addres
               let z : kind h ≡ 1 = ap (λ (t : ℕ). t % 3) (sym K.core.turns_is) ∙ e in (
                 true,
                 (λ u. absurd (one_not_zero (sym z ∙ u))),
-                subst (λ (n : ℕ). Turns m' (overOf d.state) room a ack out (Did d.outcome) (ended (by_kind n true (fitsRoom (length m.slots) h h.room) h (arriving arrived a s)))) (sym z)
+                subst (λ (n : ℕ). Turns m' (over_of d.state) room a ack out (Did d.outcome) (ended (by_kind n true (fits_room (length m.slots) h h.room) h (arriving arrived a s)))) (sym z)
                     (did (A.is h K) out),
               );
           fit = λ l. refl;
@@ -75,8 +75,8 @@ module _ {m : Memory} {k : State} {room : List ℕ} {arrived : Bool} {a : Addres
           let z : kind h ≡ 2 = ap (λ (t : ℕ). t % 3) (sym K.core.turns_is) ∙ two (k.turns % 3) n0 n1 (mod-lt k.turns (omega arith)) in (
             true,
             (λ u. absurd (two_not_zero (sym z ∙ u))),
-            subst (λ (n : ℕ). Turns m r.state room a ack out' r.outcome (ended (by_kind n true (fitsRoom (length m.slots) h h.room) h (arriving arrived a s)))) (sym z)
-                (A.is m.lows m.owners m.keys m.slots m.lens m.values m.nameLens m.names m.mail room h K L.out_fits a ack),
+            subst (λ (n : ℕ). Turns m r.state room a ack out' r.outcome (ended (by_kind n true (fits_room (length m.slots) h h.room) h (arriving arrived a s)))) (sym z)
+                (A.is m.lows m.owners m.keys m.slots m.lens m.values m.name_lens m.names m.mail room h K L.out_fits a ack),
           );
       fit = λ l. A.fit L.out_fits;
       refused = λ n. absurd (n L);

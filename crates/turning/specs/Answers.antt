@@ -7,9 +7,9 @@ use Rattle.protocol.specs.State.{Host}
 use Rattle.protocol.specs.Turn.{kind, turn}
 use Rattle.hosts.specs.declared.State.{State}
 use Rattle.hosts.specs.Memory.{Memory, memory}
-use Rattle.hosts.specs.Limits.{fitsRoom}
-use Rattle.hosts.specs.Keeps.{limitsOf, Keeps}
-use Rattle.incoming.specs.Answers.{ackLength, Tested, outcomeOf as received}
+use Rattle.hosts.specs.Limits.{fits_room}
+use Rattle.hosts.specs.Keeps.{limits_of, Keeps}
+use Rattle.incoming.specs.Answers.{ack_length, Tested, outcome_of as received}
 use Rattle.rounds.specs.declared.Turned.TheVariants.{Unfit}
 use Rattle.rounds.specs.declared.Ended.{Ended}
 use Rattle.rounds.specs.Answers.{refuses, Turns}
@@ -17,7 +17,7 @@ use Rattle.arriving.specs.Answers.{arriving}
 
 -- what was lent for an Ack and for the places of what is sent again is long enough
 pub record Lent (m : Memory) (ack out : List ℕ) : Type 0 where
-  pub ack_fits : ackLength ≤ length ack
+  pub ack_fits : ack_length ≤ length ack
   pub out_fits : capacity m.places ≤ length out
 
 -- Whatever host memory keeps, this is its turn, with the room test's own answer if a datagram is received and whether a value fits as the table's
@@ -25,7 +25,7 @@ pub record Lent (m : Memory) (ack out : List ℕ) : Type 0 where
 pub record AfterTurn (m : Memory) (k : State) (room : List ℕ) (arrived : Bool) (a : Address) (s ack out : List ℕ) (r : Ended) (m' : Memory)
     (room' ack' out' : List ℕ) : Type 0 where
   pub is : (h : Host) → Keeps m k room h → Lent m ack out
-      → (roomy : Bool) × (kind h ≡ 0 → arrived ≡ true → Tested (limitsOf m k room) h a s roomy)
-      × Turns m' r.state room' a ack' out' r.outcome (turn roomy (fitsRoom (length m.slots) h h.room) h (arriving arrived a s))
+      → (roomy : Bool) × (kind h ≡ 0 → arrived ≡ true → Tested (limits_of m k room) h a s roomy)
+      × Turns m' r.state room' a ack' out' r.outcome (turn roomy (fits_room (length m.slots) h h.room) h (arriving arrived a s))
   pub fit : Lent m ack out → refuses r.outcome ≡ false
   pub refused : (Lent m ack out → ⊥) → (r.outcome ≡ Unfit) × (r.state ≡ k) × (m' ≡ m) × (room' ≡ room) × (ack' ≡ ack) × (out' ≡ out)

@@ -8,9 +8,9 @@ use Prim.Native.Nat.{ℕ, ◌<◌}
 use native.Mathlib.Omega.{arith}
 use Rattle.message.specs.Message.{Address}
 use Rattle.world.specs.Single.{Among}
-use Rattle.upstream.specs.Messages.{Hashtable, getRequest, message, ack, Packet}
-use Rattle.upstream.specs.Delivery.{insert, ackOf, truncate, SingleDelivery, ReceiveAck}
-use Rattle.upstream.specs.Hosts.{AppRequest, State, Map, Complete, freed, receives, sent, ProcessRoom, Next, NextGet, receivePacket, processPacket, stutter}
+use Rattle.upstream.specs.Messages.{Hashtable, get_request, message, ack, Packet}
+use Rattle.upstream.specs.Delivery.{insert, ack_of, truncate, SingleDelivery, ReceiveAck}
+use Rattle.upstream.specs.Hosts.{AppRequest, State, Map, Complete, freed, receives, sent, ProcessRoom, Next, NextGet, receive_packet, process_packet, stutter}
 
 -- Receiving may change anything. On an Ack that says nothing new the host may take another map, another table, another count and another list of
 -- requests: the line "nothing else changes" compares the new state with itself. (Here `protocol.receive` is a function, and where the host stays as it
@@ -28,7 +28,7 @@ pub anything_changes : (pre : State) → pre.received ≡ none → Complete pre 
 anything_changes pre free complete map table count requests a = record {
   complete = complete;
   constants = refl;
-  step = receivePacket;
+  step = receive_packet;
   is = (
     complete,
     tt,
@@ -48,21 +48,21 @@ anything_changes pre free complete map table count requests a = record {
 
 -- An Ack that says something new may change what was received, to anything; then old messages are new again. (Here `protocol.confirmed` keeps it;
 -- `crates/world/must-fail/ack_frees_the_received.edit` is refused)
-pub ack_frees : (pre : SingleDelivery) (src : Address) (n : ℕ) → (ackOf (pre.sends src)).acked < n → (received : Address → Option ℕ)
+pub ack_frees : (pre : SingleDelivery) (src : Address) (n : ℕ) → (ack_of (pre.sends src)).acked < n → (received : Address → Option ℕ)
     → ReceiveAck pre (record {
       received = received;
-      sends = insert src (record { acked = n; unacked = truncate (ackOf (pre.sends src)).unacked n }) pre.sends;
+      sends = insert src (record { acked = n; unacked = truncate (ack_of (pre.sends src)).unacked n }) pre.sends;
     }) src n (λ p. ⊥)
 ack_frees pre src n more received = record { none_sent = λ p w. w; more = λ w. refl; stale = λ w. absurd (w more) }
 
--- A Get may be dropped, always. (Here `protocol.onGet` drops none that has a number for its answer; `crates/getting/must-fail` has a body that drops
+-- A Get may be dropped, always. (Here `protocol.on_get` drops none that has a number for its answer; `crates/getting/must-fail` has a body that drops
 -- them)
-pub get_dropped : (pre : State) (src dst me : Address) (n k : ℕ) → pre.received ≡ some (record { dst = me; src = src; msg = message n dst (getRequest k) })
+pub get_dropped : (pre : State) (src dst me : Address) (n k : ℕ) → pre.received ≡ some (record { dst = me; src = src; msg = message n dst (get_request k) })
     → Complete pre → Next pre (freed pre) []
 get_dropped pre src dst me n k there complete = record {
   complete = complete;
   constants = refl;
-  step = processPacket;
+  step = process_packet;
   is = (
     complete,
     tt,

@@ -5,15 +5,15 @@ use mathlib.Core.Bool.{Bool, true, false, ◌||◌, false≢true}
 use mathlib.Core.List.{List, [], ◌∷◌}
 use mathlib.Core.Logic.{inl, inr, ⊎_elim}
 use Rattle.message.specs.Message.{Address, Datagram}
-use Rattle.message.specs.Message.{message as messageOf, ack as ackOf}
+use Rattle.message.specs.Message.{message as messageOf, ack as ack_of}
 use Rattle.decoding.specs.Decode.{same}
 use Rattle.decoding.proofs.Decided.{same_true, same_refl}
 use Rattle.protocol.specs.Address.{among}
 use Rattle.protocol.specs.Delivery.{Packet as Handed}
 use Rattle.world.specs.Single.{Among}
 use Rattle.upstream.specs.Messages.{SingleMessage, message, ack, invalid, Packet, Empty, Only}
-use Rattle.upstream.specs.Hosts.{sends, sentList, sent, AllSends, NoInvalidSends}
-use Rattle.upstream.specs.View.{viewDatagram, CarriesAll, sending}
+use Rattle.upstream.specs.Hosts.{sends, sent_list, sent, AllSends, NoInvalidSends}
+use Rattle.upstream.specs.View.{view_datagram, CarriesAll, sending}
 
 -- ---- on a list
 
@@ -35,7 +35,7 @@ on_among a (b ∷ l) (inr o) = go (same a b) (on_among a l o)
 
 -- ---- sends
 
-pub sent_sending : (l : List Packet) → sentList (sending l) ≡ l
+pub sent_sending : (l : List Packet) → sent_list (sending l) ≡ l
 sent_sending [] = refl
 sent_sending (p ∷ l) = ap (λ (m : List Packet). p ∷ m) (sent_sending l)
 
@@ -51,15 +51,15 @@ one_sent q p = ((λ o. ⊎_elim (λ e. e) (λ w. absurd w) o), λ e. inl e)
 
 -- ---- what is handed out is never Invalid
 
-isInvalid : SingleMessage → Bool
-isInvalid (message s d m) = false
-isInvalid (ack n) = false
-isInvalid invalid = true
+is_invalid : SingleMessage → Bool
+is_invalid (message s d m) = false
+is_invalid (ack n) = false
+is_invalid invalid = true
 
-not_invalid : (d : Datagram) → viewDatagram d ≡ invalid → ⊥
-unfolding isInvalid
-not_invalid (messageOf n a b) e = false≢true (ap isInvalid e)
-not_invalid (ackOf n) e = false≢true (ap isInvalid e)
+not_invalid : (d : Datagram) → view_datagram d ≡ invalid → ⊥
+unfolding is_invalid
+not_invalid (messageOf n a b) e = false≢true (ap is_invalid e)
+not_invalid (ack_of n) e = false≢true (ap is_invalid e)
 
 carried_sound : (me : Address) (l : List Handed) (m : List Packet) → CarriesAll me l m → (q : Packet) → Among q m → q.msg ≡ invalid → ⊥
 carried_sound me [] [] C q o e = o

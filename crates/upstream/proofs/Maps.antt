@@ -15,7 +15,7 @@ use Rattle.keys.specs.Bound.{holds}
 use Rattle.message.specs.Message.{Address}
 use Rattle.delegation.specs.Map.{updated, Keeps, Whole}
 use Rattle.records.specs.Table.{Value, Table, put, removed, within, storing, replaced, Listed}
-use Rattle.upstream.specs.Hosts.{Map, preferred, bulkUpdate, bulkRemove, extract, update, AllOf}
+use Rattle.upstream.specs.Hosts.{Map, preferred, bulk_update, bulk_remove, extract, update, AllOf}
 
 -- ---- the map. N names the owners
 
@@ -47,7 +47,7 @@ pub table_put : (k : ℕ) (v : Option Value) (T : Table) → (put k v T k ≡ v)
 table_put k v T = (ap (λ (t : Bool). cond t v (T k)) (eq-eqb k k refl), λ j n. ap (λ (t : Bool). cond t v (T j)) (ne_eqb j k n))
 
 -- bulk_remove and filter
-pub table_removed : (lo hi : Bound) (T : Table) → removed lo hi T ≡ bulkRemove T (record { lo = lo; hi = hi })
+pub table_removed : (lo hi : Bound) (T : Table) → removed lo hi T ≡ bulk_remove T (record { lo = lo; hi = hi })
 table_removed lo hi T = refl
 
 pub table_within : (lo hi : Bound) (T : Table) → within lo hi T ≡ extract T (record { lo = lo; hi = hi })
@@ -91,7 +91,7 @@ module _ (key : ℕ → ℕ) (val : ℕ → Value) (T : Table) (k : ℕ) where
 
 -- bulk_update: the table after it is upstream's
 pub table_replaced : (lo hi : Bound) (m : ℕ) (key : ℕ → ℕ) (val : ℕ → Value) (T U : Table) → Listed m key val U
-    → (k : ℕ) → replaced lo hi m key val T k ≡ bulkUpdate T (record { lo = lo; hi = hi }) U k
+    → (k : ℕ) → replaced lo hi m key val T k ≡ bulk_update T (record { lo = lo; hi = hi }) U k
 table_replaced lo hi m key val T U L k = ⊎_elim there absent (found key k m)
   where
     there : ((i : ℕ) × (i < m) × (key i ≡ k)) → storing m key val (removed lo hi T) k ≡ preferred (U k) (removed lo hi T k)

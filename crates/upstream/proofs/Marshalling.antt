@@ -10,7 +10,7 @@ use Rattle.format.specs.Format.{Format, Of, encode, Good}
 use Rattle.format.specs.Place.{Stands}
 use Rattle.format.proofs.Clear.{no_prefix, injective}
 use Rattle.message.specs.Message.{Datagram, message, ack}
-use Rattle.message.specs.Table.{datagram, datagramValue, written, Valid}
+use Rattle.message.specs.Table.{datagram, datagram_value, written, Valid}
 use Rattle.message.specs.View.{bytes_of, body_of}
 use Rattle.message.specs.Answers.{AfterParse}
 use Rattle.message.specs.declared.Parsed.{Parsed}
@@ -36,7 +36,7 @@ format_marshalable f = record {
 -- and of whole datagrams
 pub datagram_marshalable : Marshalable Datagram Valid written (λ x y. x ≡ y)
 datagram_marshalable = record {
-  decided = λ x. (good datagram (datagramValue x), good_true datagram (datagramValue x), λ e g. false≢true (sym e ∙ good_of datagram (datagramValue x) g));
+  decided = λ x. (good datagram (datagram_value x), good_true datagram (datagram_value x), λ e g. false≢true (sym e ∙ good_of datagram (datagram_value x) g));
   symmetric = λ x y e. sym e;
   no_prefix = λ x y g w n l e.
       n (no_message_begins x y g w (drop (length (written x)) (written y))

@@ -10,7 +10,7 @@ use native.Mathlib.Omega.{arith}
 use lib.ListN.{length}
 use lib.Dec.{ltb, leb}
 use borrow.Author.Tests.{not-true, not-false, eq-eqb, ne_eqb, ltb-true, ltb-false, leb-true, leb-false}
-use Rattle.limits.specs.Limits.{valueMax, entriesLimit, transfersLimit}
+use Rattle.limits.specs.Limits.{value_max, entries_limit, transfers_limit}
 use Rattle.keys.specs.declared.Bound.{Bound}
 use Rattle.keys.specs.Bound.{below, holds}
 use Rattle.format.specs.Number.{numbers}
@@ -22,17 +22,17 @@ use Rattle.decoding.specs.Decode.{same}
 use Rattle.decoding.proofs.Decided.{same_true, same_refl}
 use Rattle.protocol.specs.Address.{among}
 use Rattle.protocol.specs.Records.{Value, look, setting, in_range, outside}
-use Rattle.protocol.specs.Owners.{Owners, ownerOf, giving, whole}
+use Rattle.protocol.specs.Owners.{Owners, owner_of, giving, whole}
 use Rattle.protocol.specs.State.{Host, Letter, done, short}
 use Rattle.protocol.specs.Delivery.{Step, Outcome, got, still, next, posted, packet, numbered, stuck, dropped, unnumbered, replied, redirected, handed}
-use Rattle.protocol.specs.Process.{free, discarded, answering, onGet, long, keeping, onSet, anyLong, unfit, onDelegate, refused, handing, onShard, onBody, onLetter, process}
+use Rattle.protocol.specs.Process.{free, discarded, answering, on_get, long, keeping, on_set, any_long, unfit, on_delegate, refused, handing, on_shard, on_body, on_letter, process}
 use Rattle.protocol.proofs.Addresses.{either, neither, short_among}
-use Rattle.protocol.proofs.Entries.{above_kept, look_inRange, look_outside, look_replacing, look_setting, or_else}
+use Rattle.protocol.proofs.Entries.{above_kept, look_in_range, look_outside, look_replacing, look_setting, or_else}
 use Rattle.protocol.proofs.Whole.{whole_all, all_whole}
-use Rattle.upstream.specs.Messages.{Len, maxValLen, ValidOptional, reply, redirect, delegate, message, Packet}
+use Rattle.upstream.specs.Messages.{Len, max_val_len, ValidOptional, reply, redirect, delegate, message, Packet}
 use Rattle.upstream.specs.Delivery.{SendSingle}
-use Rattle.upstream.specs.Hosts.{AppRequest, appGet, appSet, sent, preferred, extract, update, AllOf, Answers, MustReject, ShouldProcess, ProcessMessage, ProcessRoom, IgnoresDelegate, freed, Next, processPacket, ignoreNonsense}
-use Rattle.upstream.specs.View.{viewBody, CarriesAll, sending, viewDelivery, viewRoom, view, recorded}
+use Rattle.upstream.specs.Hosts.{AppRequest, app_get, app_set, sent, preferred, extract, update, AllOf, Answers, MustReject, ShouldProcess, ProcessMessage, ProcessRoom, IgnoresDelegate, freed, Next, process_packet, ignore_nonsense}
+use Rattle.upstream.specs.View.{view_body, CarriesAll, sending, view_delivery, view_room, view, recorded}
 use Rattle.upstream.proofs.Lists.{among_on, on_among, all_sends, one_sent, sound}
 use Rattle.upstream.proofs.Views.{seqno_is, acks_posted}
 use Rattle.upstream.proofs.Receives.{complete}
@@ -59,17 +59,17 @@ module _ (past : List AppRequest) (h : Host) (S : Sane h) where
 
   -- a message that has a number is sent, by a host that has done with its room
   send_posted : (o : Owners) (es : List Entry) (t : ℕ) (c : Address) (b : Body) → numbered h c ≡ true
-      → SendSingle (viewDelivery h) (viewDelivery (posted c b (done o es t h))) (viewBody b) c (some (message (next h c) c (viewBody b)))
+      → SendSingle (view_delivery h) (view_delivery (posted c b (done o es t h))) (view_body b) c (some (message (next h c) c (view_body b)))
   send_posted o es t c b e = record {
     too_many = λ w. let u = seqno_is h c in absurd (omega (arith, u, w, ltb-true (next h c) numbers e));
     sent = λ w. (
-      ap (λ (n : ℕ). some (message n c (viewBody b))) (sym (seqno_is h c)),
-      ap (λ f. record { received = (viewDelivery h).received; sends = f }) (acks_posted (done o es t h) c b),
+      ap (λ (n : ℕ). some (message n c (view_body b))) (sym (seqno_is h c)),
+      ap (λ f. record { received = (view_delivery h).received; sends = f }) (acks_posted (done o es t h) c b),
     );
   }
 
-  abbrev pktTo : Address → Body → Packet
-  pktTo c b = record { dst = c; src = h.me; msg = message (next h c) c (viewBody b) }
+  abbrev pkt_to : Address → Body → Packet
+  pkt_to c b = record { dst = c; src = h.me; msg = message (next h c) c (view_body b) }
 
   module _ (l : Letter) where
     -- upstream allows the step s for the body b, by one of its two relations
@@ -77,8 +77,8 @@ module _ (past : List AppRequest) (h : Host) (S : Sane h) where
       packets : List Packet
       carried : CarriesAll h.me s.sends packets
       constants : (view past h).constants ≡ (view (recorded past s.executed) s.state).constants
-      is : ProcessMessage (message l.number h.me (viewBody b)) (view past h) (view (recorded past s.executed) s.state) l.from (sent (sending packets))
-          ⊎ (IgnoresDelegate (message l.number h.me (viewBody b)) (view past h) (view (recorded past s.executed) s.state) × (packets ≡ []))
+      is : ProcessMessage (message l.number h.me (view_body b)) (view past h) (view (recorded past s.executed) s.state) l.from (sent (sending packets))
+          ⊎ (IgnoresDelegate (message l.number h.me (view_body b)) (view past h) (view (recorded past s.executed) s.state) × (packets ≡ []))
 
     -- the room is freed, and that is all
     dropped_get : (k : ℕ) (o : Outcome) → Row (getBody k) (discarded h o)
@@ -99,25 +99,25 @@ module _ (past : List AppRequest) (h : Host) (S : Sane h) where
 
     -- ---- Get and Set
 
-    owner_me : (k : ℕ) → same (ownerOf h.owners k) h.me ≡ true → ownerOf h.owners k ≡ h.me
-    owner_me k e = same_true (ownerOf h.owners k) h.me e
+    owner_me : (k : ℕ) → same (owner_of h.owners k) h.me ≡ true → owner_of h.owners k ≡ h.me
+    owner_me k e = same_true (owner_of h.owners k) h.me e
 
-    not_me : (k : ℕ) → same (ownerOf h.owners k) h.me ≡ false → ownerOf h.owners k ≡ h.me → ⊥
+    not_me : (k : ℕ) → same (owner_of h.owners k) h.me ≡ false → owner_of h.owners k ≡ h.me → ⊥
     not_me k e q = false≢true (sym e ∙ ap (λ (z : Address). same z h.me) q ∙ same_refl h.me)
 
     -- the answer's delivery and packet
     answered : (o : Owners) (es : List Entry) (t : ℕ) (b : Body) (past' : List AppRequest) → numbered h l.from ≡ true
-        → Answers (view past h) (view past' (posted l.from b (done o es t h))) l.from (viewBody b) (message (next h l.from) l.from (viewBody b))
-        (next h l.from) (viewBody b) (sent (sending (pktTo l.from b ∷ [])))
-    answered o es t b past' e = record { delivery = send_posted o es t l.from b e; to = refl; only = one_sent (pktTo l.from b) }
+        → Answers (view past h) (view past' (posted l.from b (done o es t h))) l.from (view_body b) (message (next h l.from) l.from (view_body b))
+        (next h l.from) (view_body b) (sent (sending (pkt_to l.from b ∷ [])))
+    answered o es t b past' e = record { delivery = send_posted o es t l.from b e; to = refl; only = one_sent (pkt_to l.from b) }
 
-    row_get : (k : ℕ) (own : Bool) → same (ownerOf h.owners k) h.me ≡ own → Row (getBody k) (onGet own h l k)
+    row_get : (k : ℕ) (own : Bool) → same (owner_of h.owners k) h.me ≡ own → Row (getBody k) (on_get own h l k)
     row_get k true m = go (numbered h l.from) refl
       where
         go : (can : Bool) → numbered h l.from ≡ can
             → Row (getBody k) (answering can (free h) l.from (replyBody k (look k h.records)) replied (some (record { from = l.from; number = l.number; act = got k (look k h.records) })))
         go true e = record {
-          packets = pktTo l.from (replyBody k (look k h.records)) ∷ [];
+          packets = pkt_to l.from (replyBody k (look k h.records)) ∷ [];
           carried = ((refl, refl, (messageOf (next h l.from) l.from (replyBody k (look k h.records)), refl, refl)), tt);
           constants = refl;
           is = inl (
@@ -132,8 +132,8 @@ module _ (past : List AppRequest) (h : Host) (S : Sane h) where
                   n = next h l.from;
                   b = reply k (look k h.records);
                   mine = λ q. (refl, refl);
-                  other = λ a q n. absurd (n (sym (some-injective (ownerOf h.owners k) a q) ∙ owner_me k m));
-                  answers = answered h.owners h.records h.transfers (replyBody k (look k h.records)) (past ++ (appGet l.number k ∷ [])) e;
+                  other = λ a q n. absurd (n (sym (some-injective (owner_of h.owners k) a q) ∙ owner_me k m));
+                  answers = answered h.owners h.records h.transfers (replyBody k (look k h.records)) (past ++ (app_get l.number k ∷ [])) e;
                 }),
               ),
               refl,
@@ -145,10 +145,10 @@ module _ (past : List AppRequest) (h : Host) (S : Sane h) where
     row_get k false m = go (numbered h l.from) refl
       where
         go : (can : Bool) → numbered h l.from ≡ can
-            → Row (getBody k) (answering can (free h) l.from (redirectBody k (ownerOf h.owners k)) redirected none)
+            → Row (getBody k) (answering can (free h) l.from (redirectBody k (owner_of h.owners k)) redirected none)
         go true e = record {
-          packets = pktTo l.from (redirectBody k (ownerOf h.owners k)) ∷ [];
-          carried = ((refl, refl, (messageOf (next h l.from) l.from (redirectBody k (ownerOf h.owners k)), refl, refl)), tt);
+          packets = pkt_to l.from (redirectBody k (owner_of h.owners k)) ∷ [];
+          carried = ((refl, refl, (messageOf (next h l.from) l.from (redirectBody k (owner_of h.owners k)), refl, refl)), tt);
           constants = refl;
           is = inl (
             (λ w. (
@@ -157,13 +157,13 @@ module _ (past : List AppRequest) (h : Host) (S : Sane h) where
                 refl,
                 refl,
                 inl (record {
-                  sm = message (next h l.from) l.from (redirect k (ownerOf h.owners k));
-                  m = redirect k (ownerOf h.owners k);
+                  sm = message (next h l.from) l.from (redirect k (owner_of h.owners k));
+                  m = redirect k (owner_of h.owners k);
                   n = next h l.from;
-                  b = redirect k (ownerOf h.owners k);
-                  mine = λ q. absurd (not_me k m (some-injective (ownerOf h.owners k) h.me q));
-                  other = λ a q n. (ap (redirect k) (some-injective (ownerOf h.owners k) a q), refl);
-                  answers = answered h.owners h.records h.transfers (redirectBody k (ownerOf h.owners k)) past e;
+                  b = redirect k (owner_of h.owners k);
+                  mine = λ q. absurd (not_me k m (some-injective (owner_of h.owners k) h.me q));
+                  other = λ a q n. (ap (redirect k) (some-injective (owner_of h.owners k) a q), refl);
+                  answers = answered h.owners h.records h.transfers (redirectBody k (owner_of h.owners k)) past e;
                 }),
               ),
               refl,
@@ -175,12 +175,12 @@ module _ (past : List AppRequest) (h : Host) (S : Sane h) where
 
     short_enough : (v : Option Value) → long v ≡ false → ValidOptional v
     short_enough none e = tt
-    short_enough (some v) e = let u = ltb-false valueMax (length v) e in omega (arith, u)
+    short_enough (some v) e = let u = ltb-false value_max (length v) e in omega (arith, u)
 
-    row_keeping : (k : ℕ) (v : Option Value) → long v ≡ false → same (ownerOf h.owners k) h.me ≡ true → (can fits : Bool) → numbered h l.from ≡ can
+    row_keeping : (k : ℕ) (v : Option Value) → long v ≡ false → same (owner_of h.owners k) h.me ≡ true → (can fits : Bool) → numbered h l.from ≡ can
         → Row (setBody k v) (keeping can fits h l k v)
     row_keeping k v e m true true n = record {
-      packets = pktTo l.from (replyBody k v) ∷ [];
+      packets = pkt_to l.from (replyBody k v) ∷ [];
       carried = ((refl, refl, (messageOf (next h l.from) l.from (replyBody k v), refl, refl)), tt);
       constants = refl;
       is = inl (
@@ -198,8 +198,8 @@ module _ (past : List AppRequest) (h : Host) (S : Sane h) where
                 refl,
                 refl,
               );
-              other = λ a q z. absurd (z (sym (some-injective (ownerOf h.owners k) a q) ∙ owner_me k m));
-              answers = answered h.owners (setting k v h.records) h.transfers (replyBody k v) (past ++ (appSet l.number k v ∷ [])) n;
+              other = λ a q z. absurd (z (sym (some-injective (owner_of h.owners k) a q) ∙ owner_me k m));
+              answers = answered h.owners (setting k v h.records) h.transfers (replyBody k v) (past ++ (app_set l.number k v ∷ [])) n;
             }),
             refl,
             refl,
@@ -212,30 +212,30 @@ module _ (past : List AppRequest) (h : Host) (S : Sane h) where
     row_keeping k v e m true false n = dropped_set k v dropped
     row_keeping k v e m false fits n = dropped_set k v unnumbered
 
-    row_set : (k : ℕ) (v : Option Value) (tooLong own fits : Bool) → long v ≡ tooLong → same (ownerOf h.owners k) h.me ≡ own
-        → Row (setBody k v) (onSet tooLong own fits h l k v)
+    row_set : (k : ℕ) (v : Option Value) (tooLong own fits : Bool) → long v ≡ tooLong → same (owner_of h.owners k) h.me ≡ own
+        → Row (setBody k v) (on_set tooLong own fits h l k v)
     row_set k v true own fits e m = dropped_set k v dropped
     row_set k v false true fits e m = row_keeping k v e m (numbered h l.from) fits refl
     row_set k v false false fits e m = go (numbered h l.from) refl
       where
         go : (can : Bool) → numbered h l.from ≡ can
-            → Row (setBody k v) (answering can (free h) l.from (redirectBody k (ownerOf h.owners k)) redirected none)
+            → Row (setBody k v) (answering can (free h) l.from (redirectBody k (owner_of h.owners k)) redirected none)
         go true n = record {
-          packets = pktTo l.from (redirectBody k (ownerOf h.owners k)) ∷ [];
-          carried = ((refl, refl, (messageOf (next h l.from) l.from (redirectBody k (ownerOf h.owners k)), refl, refl)), tt);
+          packets = pkt_to l.from (redirectBody k (owner_of h.owners k)) ∷ [];
+          carried = ((refl, refl, (messageOf (next h l.from) l.from (redirectBody k (owner_of h.owners k)), refl, refl)), tt);
           constants = refl;
           is = inl (
             (λ w. (
               (
                 inl (record {
                   valid = short_enough v e;
-                  sm = message (next h l.from) l.from (redirect k (ownerOf h.owners k));
-                  m = redirect k (ownerOf h.owners k);
+                  sm = message (next h l.from) l.from (redirect k (owner_of h.owners k));
+                  m = redirect k (owner_of h.owners k);
                   n = next h l.from;
-                  b = redirect k (ownerOf h.owners k);
-                  mine = λ q. absurd (not_me k m (some-injective (ownerOf h.owners k) h.me q));
-                  other = λ a q z. (refl, ap (redirect k) (some-injective (ownerOf h.owners k) a q), refl);
-                  answers = answered h.owners h.records h.transfers (redirectBody k (ownerOf h.owners k)) past n;
+                  b = redirect k (owner_of h.owners k);
+                  mine = λ q. absurd (not_me k m (some-injective (owner_of h.owners k) h.me q));
+                  other = λ a q z. (refl, ap (redirect k) (some-injective (owner_of h.owners k) a q), refl);
+                  answers = answered h.owners h.records h.transfers (redirectBody k (owner_of h.owners k)) past n;
                 }),
                 refl,
                 refl,
@@ -249,19 +249,19 @@ module _ (past : List AppRequest) (h : Host) (S : Sane h) where
 
     -- ---- Delegate
 
-    map_given : (lo hi : Bound) (a : Address) → (λ (k : ℕ). some (ownerOf (giving lo hi a h.owners) k)) ≡ update (λ k. some (ownerOf h.owners k)) (record { lo = lo; hi = hi }) a
+    map_given : (lo hi : Bound) (a : Address) → (λ (k : ℕ). some (owner_of (giving lo hi a h.owners) k)) ≡ update (λ k. some (owner_of h.owners k)) (record { lo = lo; hi = hi }) a
     map_given lo hi a = λ i k. go k (holds lo hi k) i
       where
-        go : (k : ℕ) (t : Bool) → ◌≡◌ {A = Option Address} (some (cond t a (ownerOf h.owners k))) (cond t (some a) (some (ownerOf h.owners k)))
+        go : (k : ℕ) (t : Bool) → ◌≡◌ {A = Option Address} (some (cond t a (owner_of h.owners k))) (cond t (some a) (some (owner_of h.owners k)))
         go k true = refl
         go k false = refl
 
-    module _ (few : ltb h.transfers (transfersLimit - 2) ≡ true) where
-      may : h.transfers < transfersLimit - 2
-      may = ltb-true h.transfers (transfersLimit - 2) few
+    module _ (few : ltb h.transfers (transfers_limit - 2) ≡ true) where
+      may : h.transfers < transfers_limit - 2
+      may = ltb-true h.transfers (transfers_limit - 2) few
 
       row_accepted : (lo hi : Bound) (es : List Entry) → Above 0 es → among l.from h.hosts ≡ true
-          → Row (delegateBody lo hi es) (onDelegate false h l lo hi es)
+          → Row (delegateBody lo hi es) (on_delegate false h l lo hi es)
       row_accepted lo hi es sorted from = record {
         packets = [];
         carried = tt;
@@ -310,7 +310,7 @@ module _ (past : List AppRequest) (h : Host) (S : Sane h) where
 
       -- a nonsensical one
       row_nonsense : (lo hi : Bound) (es : List Entry)
-          → ((((n : ℕ) × Len (λ k. look k es) n × (n < entriesLimit)) × ((k : ℕ) (v : Value) → look k es ≡ some v → length v < maxValLen)) → (below lo hi ≡ false → ⊥) → ⊥)
+          → ((((n : ℕ) × Len (λ k. look k es) n × (n < entries_limit)) × ((k : ℕ) (v : Value) → look k es ≡ some v → length v < max_val_len)) → (below lo hi ≡ false → ⊥) → ⊥)
           → Row (delegateBody lo hi es) (discarded h dropped)
       row_nonsense lo hi es n = record {
         packets = [];
@@ -320,9 +320,9 @@ module _ (past : List AppRequest) (h : Host) (S : Sane h) where
       }
 
       row_delegate : (lo hi : Bound) (es : List Entry) → Above 0 es → (no : Bool) → unfit h l lo hi es ≡ no
-          → Row (delegateBody lo hi es) (onDelegate no h l lo hi es)
+          → Row (delegateBody lo hi es) (on_delegate no h l lo hi es)
       row_delegate lo hi es sorted false e =
-          row_accepted lo hi es sorted (not-false _ (neither (anyLong es) _ (neither (leb entriesLimit (length es)) _ (neither (not (below lo hi)) _ e).1).1).1)
+          row_accepted lo hi es sorted (not-false _ (neither (any_long es) _ (neither (leb entries_limit (length es)) _ (neither (not (below lo hi)) _ e).1).1).1)
       row_delegate lo hi es sorted true e =
           ⊎_elim
           (λ q. row_nonsense lo hi es (λ v n. n (not-true (below lo hi) q)))
@@ -333,7 +333,7 @@ module _ (past : List AppRequest) (h : Host) (S : Sane h) where
           (λ v n.
           let u : length es ≡ v.0.0 = len_unique (λ k. look k es) v.0.0 es sorted (λ k. refl) v.0.1 in
           let w = v.0.2 in
-          omega (arith, u, w, leb-true entriesLimit (length es) r)))
+          omega (arith, u, w, leb-true entries_limit (length es) r)))
           (λ r.
           ⊎_elim
           (λ z.
@@ -344,22 +344,22 @@ module _ (past : List AppRequest) (h : Host) (S : Sane h) where
           let x = b.3 in
           omega (arith, w, x)))
           (λ z. row_strange lo hi es (not-true (among l.from h.hosts) z))
-          (either (anyLong es) _ r))
-          (either (leb entriesLimit (length es)) _ q))
+          (either (any_long es) _ r))
+          (either (leb entries_limit (length es)) _ q))
           (either (not (below lo hi)) _ e)
 
       -- ---- Shard
 
       -- how many entries the range has
       range_len : (lo hi : Bound) → Len (extract (λ k. look k h.records) (record { lo = lo; hi = hi })) (length (in_range lo hi h.records))
-      range_len lo hi = (in_range lo hi h.records, above_kept (holds lo hi) 0 h.records S.sorted, (λ k. look_inRange lo hi k h.records), refl)
+      range_len lo hi = (in_range lo hi h.records, above_kept (holds lo hi) 0 h.records S.sorted, (λ k. look_in_range lo hi k h.records), refl)
 
       -- a map that says "mine" throughout, in upstream's words and here
       all_of : (lo hi : Bound) → whole lo hi h.me h.owners ≡ true → AllOf (view past h).delegation (record { lo = lo; hi = hi }) h.me
       all_of lo hi e k c = ap (λ (a : Address). some a) (whole_all lo hi h.me h.owners e k c)
 
       of_all : (lo hi : Bound) → AllOf (view past h).delegation (record { lo = lo; hi = hi }) h.me → whole lo hi h.me h.owners ≡ true
-      of_all lo hi A = all_whole lo hi h.me h.owners (λ k c. some-injective (ownerOf h.owners k) h.me (A k c))
+      of_all lo hi A = all_whole lo hi h.me h.owners (λ k c. some-injective (owner_of h.owners k) h.me (A k c))
 
       must_reject : (lo hi : Bound) (a : Address) → refused h lo hi a ≡ true → MustReject (view past h) (record { lo = lo; hi = hi }) a
       must_reject lo hi a e =
@@ -370,23 +370,23 @@ module _ (past : List AppRequest) (h : Host) (S : Sane h) where
           ⊎_elim (λ s. inr (inr (inl (not-true (below lo hi) s))))
           (λ s.
           ⊎_elim (λ z. inr (inr (inr (inr (inl (λ A. false≢true (sym (not-true (whole lo hi h.me h.owners) z) ∙ of_all lo hi A)))))))
-          (λ z. inr (inr (inr (inr (inr (length (in_range lo hi h.records), range_len lo hi, leb-true entriesLimit (length (in_range lo hi h.records)) z))))))
+          (λ z. inr (inr (inr (inr (inr (length (in_range lo hi h.records), range_len lo hi, leb-true entries_limit (length (in_range lo hi h.records)) z))))))
           (either (not (whole lo hi h.me h.owners)) _ s))
           (either (not (below lo hi)) _ r))
           (either (not (among a h.hosts)) _ q))
           (either (same a h.me) _ e)
 
       module _ (lo hi : Bound) (a : Address) (e : refused h lo hi a ≡ false) where
-        first : (same a h.me ≡ false) × ((not (among a h.hosts) || (not (below lo hi) || (not (whole lo hi h.me h.owners) || leb entriesLimit (length (in_range lo hi h.records))))) ≡ false)
+        first : (same a h.me ≡ false) × ((not (among a h.hosts) || (not (below lo hi) || (not (whole lo hi h.me h.owners) || leb entries_limit (length (in_range lo hi h.records))))) ≡ false)
         first = neither _ _ e
 
-        second : (not (among a h.hosts) ≡ false) × ((not (below lo hi) || (not (whole lo hi h.me h.owners) || leb entriesLimit (length (in_range lo hi h.records)))) ≡ false)
+        second : (not (among a h.hosts) ≡ false) × ((not (below lo hi) || (not (whole lo hi h.me h.owners) || leb entries_limit (length (in_range lo hi h.records)))) ≡ false)
         second = neither _ _ first.1
 
-        third : (not (below lo hi) ≡ false) × ((not (whole lo hi h.me h.owners) || leb entriesLimit (length (in_range lo hi h.records))) ≡ false)
+        third : (not (below lo hi) ≡ false) × ((not (whole lo hi h.me h.owners) || leb entries_limit (length (in_range lo hi h.records))) ≡ false)
         third = neither _ _ second.1
 
-        fourth : (not (whole lo hi h.me h.owners) ≡ false) × (leb entriesLimit (length (in_range lo hi h.records)) ≡ false)
+        fourth : (not (whole lo hi h.me h.owners) ≡ false) × (leb entries_limit (length (in_range lo hi h.records)) ≡ false)
         fourth = neither _ _ third.1
 
         is_host : among a h.hosts ≡ true
@@ -404,17 +404,17 @@ module _ (past : List AppRequest) (h : Host) (S : Sane h) where
         not_rejected (inr (inr (inr (inr (inr q))))) =
             let u : length (in_range lo hi h.records) ≡ q.0 =
             len_unique (extract (λ k. look k h.records) (record { lo = lo; hi = hi })) q.0 (in_range lo hi h.records)
-            (above_kept (holds lo hi) 0 h.records S.sorted) (λ k. look_inRange lo hi k h.records) q.1 in
+            (above_kept (holds lo hi) 0 h.records S.sorted) (λ k. look_in_range lo hi k h.records) q.1 in
             let w = q.2 in
-            omega (arith, u, w, leb-false entriesLimit (length (in_range lo hi h.records)) fourth.1)
+            omega (arith, u, w, leb-false entries_limit (length (in_range lo hi h.records)) fourth.1)
 
         -- the entries of the range, as a table
         table_is : (λ (k : ℕ). look k (in_range lo hi h.records)) ≡ extract (λ k. look k h.records) (record { lo = lo; hi = hi })
-        table_is = λ i k. look_inRange lo hi k h.records i
+        table_is = λ i k. look_in_range lo hi k h.records i
 
         row_handing : (can : Bool) → numbered h a ≡ can → Row (shardBody lo hi a) (handing can h lo hi a)
         row_handing true n = record {
-          packets = pktTo a (delegateBody lo hi (in_range lo hi h.records)) ∷ [];
+          packets = pkt_to a (delegateBody lo hi (in_range lo hi h.records)) ∷ [];
           carried = ((refl, refl, (messageOf (next h a) a (delegateBody lo hi (in_range lo hi h.records)), refl, refl)), tt);
           constants = refl;
           is = inl (
@@ -422,18 +422,18 @@ module _ (past : List AppRequest) (h : Host) (S : Sane h) where
               record {
                 rejected = λ r. absurd (not_rejected r);
                 handed = λ r. (
-                  some (message (next h a) a (viewBody (delegateBody lo hi (in_range lo hi h.records)))),
+                  some (message (next h a) a (view_body (delegateBody lo hi (in_range lo hi h.records)))),
                   record {
                     other = other;
                     is_host = among_on a h.hosts is_host;
                     all_mine = all_of lo hi (not-false _ fourth.0);
-                    delivery = subst (λ u. SendSingle (viewDelivery h) (viewDelivery (posted a (delegateBody lo hi (in_range lo hi h.records)) (done (giving lo hi a h.owners) (outside lo hi h.records) (suc h.transfers) h)))
-                        (delegate (record { lo = lo; hi = hi }) u) a (some (message (next h a) a (viewBody (delegateBody lo hi (in_range lo hi h.records)))))) table_is
+                    delivery = subst (λ u. SendSingle (view_delivery h) (view_delivery (posted a (delegateBody lo hi (in_range lo hi h.records)) (done (giving lo hi a h.owners) (outside lo hi h.records) (suc h.transfers) h)))
+                        (delegate (record { lo = lo; hi = hi }) u) a (some (message (next h a) a (view_body (delegateBody lo hi (in_range lo hi h.records)))))) table_is
                         (send_posted (giving lo hi a h.owners) (outside lo hi h.records) (suc h.transfers) a (delegateBody lo hi (in_range lo hi h.records)) n);
                     constants = refl;
                     counted = omega arith;
                     no_request = refl;
-                    sent = (one_sent (pktTo a (delegateBody lo hi (in_range lo hi h.records))), map_given lo hi a, λ i k. look_outside lo hi k h.records i);
+                    sent = (one_sent (pkt_to a (delegateBody lo hi (in_range lo hi h.records))), map_given lo hi a, λ i k. look_outside lo hi k h.records i);
                   },
                 );
               },
@@ -473,7 +473,7 @@ module _ (past : List AppRequest) (h : Host) (S : Sane h) where
           );
         }
 
-      row_shard : (lo hi : Bound) (a : Address) (no : Bool) → refused h lo hi a ≡ no → Row (shardBody lo hi a) (onShard no h lo hi a)
+      row_shard : (lo hi : Bound) (a : Address) (no : Bool) → refused h lo hi a ≡ no → Row (shardBody lo hi a) (on_shard no h lo hi a)
       row_shard lo hi a true e = record {
         packets = [];
         carried = tt;
@@ -485,16 +485,16 @@ module _ (past : List AppRequest) (h : Host) (S : Sane h) where
     -- ---- every body
 
     -- at the limit of transfers the message stays
-    stays : (b : Body) → (ShouldProcess (view past h) (viewBody b) → ⊥) → Row b (still h stuck)
+    stays : (b : Body) → (ShouldProcess (view past h) (view_body b) → ⊥) → Row b (still h stuck)
     stays b n = record { packets = []; carried = tt; constants = refl; is = inl ((λ w. absurd (n w)), λ w. (refl, λ p q. q)) }
 
-    row : (few fits : Bool) → ltb h.transfers (transfersLimit - 2) ≡ few → (b : Body) → Valid (messageOf l.number h.me b) → Row b (onBody few fits h l b)
-    row few fits e (getBody k) v = row_get k (same (ownerOf h.owners k) h.me) refl
-    row few fits e (setBody k u) v = row_set k u (long u) (same (ownerOf h.owners k) h.me) fits refl refl
+    row : (few fits : Bool) → ltb h.transfers (transfers_limit - 2) ≡ few → (b : Body) → Valid (messageOf l.number h.me b) → Row b (on_body few fits h l b)
+    row few fits e (getBody k) v = row_get k (same (owner_of h.owners k) h.me) refl
+    row few fits e (setBody k u) v = row_set k u (long u) (same (owner_of h.owners k) h.me) fits refl refl
     row true fits e (delegateBody lo hi es) v = row_delegate e lo hi es v.1.1.1.1.1.2 (unfit h l lo hi es) refl
-    row false fits e (delegateBody lo hi es) v = stays (delegateBody lo hi es) (λ w. omega (arith, w, ltb-false h.transfers (transfersLimit - 2) e))
+    row false fits e (delegateBody lo hi es) v = stays (delegateBody lo hi es) (λ w. omega (arith, w, ltb-false h.transfers (transfers_limit - 2) e))
     row true fits e (shardBody lo hi a) v = row_shard e lo hi a (refused h lo hi a) refl
-    row false fits e (shardBody lo hi a) v = stays (shardBody lo hi a) (λ w. omega (arith, w, ltb-false h.transfers (transfersLimit - 2) e))
+    row false fits e (shardBody lo hi a) v = stays (shardBody lo hi a) (λ w. omega (arith, w, ltb-false h.transfers (transfers_limit - 2) e))
     row few fits e (replyBody k u) v = record { packets = []; carried = tt; constants = refl; is = inl ((λ w. ((refl, λ p q. q), refl)), λ w. absurd (w tt)) }
     row few fits e (redirectBody k a) v = record { packets = []; carried = tt; constants = refl; is = inl ((λ w. ((refl, λ p q. q), refl)), λ w. absurd (w tt)) }
 
@@ -506,41 +506,41 @@ module _ (past : List AppRequest) (h : Host) (S : Sane h) where
       next = ⊎_elim processed nonsense r.is;
     }
       where
-        processed : ProcessMessage (message l.number h.me (viewBody l.body)) (view past h) (view (recorded past s.executed) s.state) l.from (sent (sending r.packets))
+        processed : ProcessMessage (message l.number h.me (view_body l.body)) (view past h) (view (recorded past s.executed) s.state) l.from (sent (sending r.packets))
             → Next (view past h) (view (recorded past s.executed) s.state) (sending r.packets)
         processed P = record {
           complete = complete past h;
           constants = r.constants;
-          step = processPacket;
-          is = (complete past h, all_sends r.packets, subst (λ (o : Option Letter). ProcessRoom (viewRoom h.me o) (view past h) (view (recorded past s.executed) s.state) (sent (sending r.packets))) (sym there) P);
+          step = process_packet;
+          is = (complete past h, all_sends r.packets, subst (λ (o : Option Letter). ProcessRoom (view_room h.me o) (view past h) (view (recorded past s.executed) s.state) (sent (sending r.packets))) (sym there) P);
           sound = sound h.me s.sends r.packets r.carried;
         }
 
-        nonsense : IgnoresDelegate (message l.number h.me (viewBody l.body)) (view past h) (view (recorded past s.executed) s.state) × (r.packets ≡ [])
+        nonsense : IgnoresDelegate (message l.number h.me (view_body l.body)) (view past h) (view (recorded past s.executed) s.state) × (r.packets ≡ [])
             → Next (view past h) (view (recorded past s.executed) s.state) (sending r.packets)
         nonsense P = record {
           complete = complete past h;
           constants = r.constants;
-          step = ignoreNonsense;
-          is = (ap sending P.1, (record { dst = h.me; src = l.from; msg = message l.number h.me (viewBody l.body) }, ap (viewRoom h.me) there, P.0));
+          step = ignore_nonsense;
+          is = (ap sending P.1, (record { dst = h.me; src = l.from; msg = message l.number h.me (view_body l.body) }, ap (view_room h.me) there, P.0));
           sound = sound h.me s.sends r.packets r.carried;
         }
 
-  implied_room : (fits : Bool) (o : Option Letter) → h.room ≡ o → Processed past h (onLetter fits h o)
+  implied_room : (fits : Bool) (o : Option Letter) → h.room ≡ o → Processed past h (on_letter fits h o)
   implied_room fits none e = record {
     packets = [];
     carried = tt;
     next = record {
       complete = complete past h;
       constants = refl;
-      step = processPacket;
-      is = (complete past h, tt, subst (λ (o : Option Letter). ProcessRoom (viewRoom h.me o) (view past h) (view past h) (sent [])) (sym e) (refl, λ p q. q));
+      step = process_packet;
+      is = (complete past h, tt, subst (λ (o : Option Letter). ProcessRoom (view_room h.me o) (view past h) (view past h) (sent [])) (sym e) (refl, λ p q. q));
       sound = λ q w z. w;
     };
   }
   implied_room fits (some l) e =
-      implied_letter l e (onBody (ltb h.transfers (transfersLimit - 2)) fits h l l.body)
-      (row l (ltb h.transfers (transfersLimit - 2)) fits refl l.body (S.room_valid l e))
+      implied_letter l e (on_body (ltb h.transfers (transfers_limit - 2)) fits h l l.body)
+      (row l (ltb h.transfers (transfers_limit - 2)) fits refl l.body (S.room_valid l e))
 
   -- upstream's process_received_packet_next or ignore_nonsensical_delegation_packet holds of processing
   pub process_implied : (fits : Bool) → Processed past h (process fits h)

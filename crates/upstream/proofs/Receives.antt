@@ -10,20 +10,20 @@ use native.Mathlib.Omega.{arith}
 use lib.Dec.{eqb, ltb, leb}
 use borrow.Author.Tests.{eqb-true, eqb-false, ltb-true, leb-true, leb-false}
 use Rattle.message.specs.Message.{Address, Body, Datagram}
-use Rattle.message.specs.Message.{message as messageOf, ack as ackOf}
+use Rattle.message.specs.Message.{message as messageOf, ack as ack_of}
 use Rattle.decoding.specs.Decode.{same, read}
 use Rattle.decoding.proofs.Decided.{same_true}
-use Rattle.protocol.specs.Address.{among, withAddress, at}
+use Rattle.protocol.specs.Address.{among, with_address, at}
 use Rattle.protocol.specs.State.{Host, Letter, took}
 use Rattle.protocol.specs.Delivery.{Step, Outcome, still, full, invalid as badBytes, elsewhere, unreceived, stale}
-use Rattle.protocol.specs.Receive.{onNumber, onMessage, onAck, onDatagram, onRoom, receive}
+use Rattle.protocol.specs.Receive.{on_number, on_message, on_ack, on_datagram, on_room, receive}
 use Rattle.protocol.proofs.Addresses.{at_same}
 use Rattle.upstream.specs.Messages.{SingleMessage, message, ack, invalid, Packet}
-use Rattle.upstream.specs.Delivery.{insert, last_of, AckState, ackOf as state_of, New}
-use Rattle.upstream.specs.Hosts.{AppRequest, Complete, Takes, receives, sends, sent, Next, receivePacket}
-use Rattle.upstream.specs.View.{viewBody, viewRead, arrives, CarriesAll, sending, lastSeen, viewAck, viewDelivery, viewRoom, view, recorded}
+use Rattle.upstream.specs.Delivery.{insert, last_of, AckState, ack_of as state_of, New}
+use Rattle.upstream.specs.Hosts.{AppRequest, Complete, Takes, receives, sends, sent, Next, receive_packet}
+use Rattle.upstream.specs.View.{view_body, view_read, arrives, CarriesAll, sending, last_seen, view_ack, view_delivery, view_room, view, recorded}
 use Rattle.upstream.proofs.Lists.{all_sends, one_sent, sound}
-use Rattle.upstream.proofs.Views.{last_of_lem, seen_took, ack_of, acks_confirmed}
+use Rattle.upstream.proofs.Views.{last_of_lem, seen_took, ack_of_lem, acks_confirmed}
 
 -- the map gives every key a host
 pub complete : (past : List AppRequest) (h : Host) → Complete (view past h)
@@ -44,7 +44,7 @@ module _ (past : List AppRequest) (h : Host) where
     next = record {
       complete = complete past h;
       constants = refl;
-      step = receivePacket;
+      step = receive_packet;
       is = (complete past h, tt, (p, inr (record { may = inr tt; same = refl; nothing = λ q w. w })));
       sound = λ q w e. w;
     };
@@ -60,7 +60,7 @@ module _ (past : List AppRequest) (h : Host) where
     next = record {
       complete = complete past h;
       constants = c;
-      step = receivePacket;
+      step = receive_packet;
       is = (complete past h, all_sends qs, (a, inl T));
       sound = sound h.me s.sends qs C;
     };
@@ -75,31 +75,31 @@ module _ (past : List AppRequest) (h : Host) where
     reply n = record { dst = a; src = h.me; msg = ack n }
 
     none_there : (view past h).received ≡ none
-    none_there = ap (viewRoom h.me) free
+    none_there = ap (view_room h.me) free
 
     -- it is the next message from a
-    is_new : (n : ℕ) (to : Address) (b : Body) → n ≡ suc (h.received a) → New (viewDelivery h) a (message n to (viewBody b))
+    is_new : (n : ℕ) (to : Address) (b : Body) → n ≡ suc (h.received a) → New (view_delivery h) a (message n to (view_body b))
     is_new n to b e = let u = last_of_lem (h.received a) in omega (arith, e, u)
 
-    not_new : (n : ℕ) (to : Address) (b : Body) → (n ≡ suc (h.received a) → ⊥) → New (viewDelivery h) a (message n to (viewBody b)) → ⊥
+    not_new : (n : ℕ) (to : Address) (b : Body) → (n ≡ suc (h.received a) → ⊥) → New (view_delivery h) a (message n to (view_body b)) → ⊥
     not_new n to b e w = let u = last_of_lem (h.received a) in e (omega (arith, w, u))
 
     implied_number : (n : ℕ) (to : Address) (b : Body) → to ≡ h.me → (new old roomy : Bool) → eqb n (suc (h.received a)) ≡ new
-        → leb n (h.received a) ≡ old → Received past h (pkt (message n to (viewBody b))) (onNumber new old roomy h a n b)
+        → leb n (h.received a) ≡ old → Received past h (pkt (message n to (view_body b))) (on_number new old roomy h a n b)
     implied_number n to b q true old true e o =
         let new : n ≡ suc (h.received a) = eqb-true n (suc (h.received a)) e in
-        let g : Host = took a n b (withAddress a h.peers) (at a n h.received) h in
-        let last : last_of (lastSeen (at a n h.received a)) ≡ n = ap (λ (k : ℕ). last_of (lastSeen k)) (at_same a n h.received) ∙ last_of_lem n in
-        taken (pkt (message n to (viewBody b))) (onNumber true old true h a n b) (reply n ∷ []) (reply n)
-        ((refl, refl, (ackOf n, refl, refl)), tt) refl
+        let g : Host = took a n b (with_address a h.peers) (at a n h.received) h in
+        let last : last_of (last_seen (at a n h.received a)) ≡ n = ap (λ (k : ℕ). last_of (last_seen k)) (at_same a n h.received) ∙ last_of_lem n in
+        taken (pkt (message n to (view_body b))) (on_number true old true h a n b) (reply n ∷ []) (reply n)
+        ((refl, refl, (ack_of n, refl, refl)), tt) refl
         (record {
           free = none_there;
           delivery = (
             record {
               new = λ w.
-                  let u : n ≡ last_of (lastSeen (h.received a)) + 1 = w in
-                  ap (λ (f : Address → Option ℕ). record { received = f; sends = (viewDelivery h).sends })
-                  (seen_took a n h.received (omega (arith, new)) ∙ ap (λ (k : ℕ). insert a k (λ x. lastSeen (h.received x))) u);
+                  let u : n ≡ last_of (last_seen (h.received a)) + 1 = w in
+                  ap (λ (f : Address → Option ℕ). record { received = f; sends = (view_delivery h).sends })
+                  (seen_took a n h.received (omega (arith, new)) ∙ ap (λ (k : ℕ). insert a k (λ x. last_seen (h.received x))) u);
               old = λ w. absurd (w (is_new n to b new));
             },
             record {
@@ -107,17 +107,17 @@ module _ (past : List AppRequest) (h : Host) where
               should_not = λ w. absurd (w (omega (arith, last)));
             },
           );
-          new = λ w. ap (λ (z : Address). some (pkt (message n z (viewBody b)))) (sym q);
+          new = λ w. ap (λ (z : Address). some (pkt (message n z (view_body b)))) (sym q);
           old = λ w. absurd (w (is_new n to b new));
           else = refl;
         })
-    implied_number n to b q true old false e o = ignored (pkt (message n to (viewBody b))) unreceived
+    implied_number n to b q true old false e o = ignored (pkt (message n to (view_body b))) unreceived
     implied_number n to b q false true roomy e o =
         let last = last_of_lem (h.received a) in
         let le : n ≤ h.received a = leb-true n (h.received a) o in
         let not : n ≡ suc (h.received a) → ⊥ = eqb-false n (suc (h.received a)) e in
-        taken (pkt (message n to (viewBody b))) (onNumber false true roomy h a n b) (reply n ∷ []) (reply n)
-        ((refl, refl, (ackOf n, refl, refl)), tt) refl
+        taken (pkt (message n to (view_body b))) (on_number false true roomy h a n b) (reply n ∷ []) (reply n)
+        ((refl, refl, (ack_of n, refl, refl)), tt) refl
         (record {
           free = none_there;
           delivery = (
@@ -135,7 +135,7 @@ module _ (past : List AppRequest) (h : Host) where
         let last = last_of_lem (h.received a) in
         let more : h.received a < n = leb-false n (h.received a) o in
         let not : n ≡ suc (h.received a) → ⊥ = eqb-false n (suc (h.received a)) e in
-        taken (pkt (message n to (viewBody b))) (onNumber false false roomy h a n b) [] (reply n) tt refl
+        taken (pkt (message n to (view_body b))) (on_number false false roomy h a n b) [] (reply n) tt refl
         (record {
           free = none_there;
           delivery = (
@@ -148,18 +148,18 @@ module _ (past : List AppRequest) (h : Host) where
         })
 
     implied_message : (n : ℕ) (to : Address) (b : Body) (mine roomy : Bool) → same to h.me ≡ mine
-        → Received past h (pkt (message n to (viewBody b))) (onMessage mine roomy h a n b)
+        → Received past h (pkt (message n to (view_body b))) (on_message mine roomy h a n b)
     implied_message n to b true roomy e =
         implied_number n to b (same_true to h.me e) (eqb n (suc (h.received a))) (leb n (h.received a)) roomy refl refl
-    implied_message n to b false roomy e = ignored (pkt (message n to (viewBody b))) elsewhere
+    implied_message n to b false roomy e = ignored (pkt (message n to (view_body b))) elsewhere
 
     implied_ack : (n : ℕ) (more : Bool) → (among a h.peers && ltb (h.acknowledged a) n) ≡ more
-        → Received past h (pkt (ack n)) (onAck more h a n)
+        → Received past h (pkt (ack n)) (on_ack more h a n)
     implied_ack n true e =
         let less : h.acknowledged a < n = ltb-true (h.acknowledged a) n ((and-eq-true_iff (among a h.peers) (ltb (h.acknowledged a) n)).0 e).1 in
-        let known = ack_of h a in
-        let u : (state_of (viewAck h a)).acked ≡ h.acknowledged a = ap (λ (s : AckState). s.acked) known in
-        taken (pkt (ack n)) (onAck true h a n) [] (reply n) tt refl
+        let known = ack_of_lem h a in
+        let u : (state_of (view_ack h a)).acked ≡ h.acknowledged a = ap (λ (s : AckState). s.acked) known in
+        taken (pkt (ack n)) (on_ack true h a n) [] (reply n) tt refl
         (record {
           free = none_there;
           delivery = record {
@@ -173,12 +173,12 @@ module _ (past : List AppRequest) (h : Host) where
         })
     implied_ack n false e = ignored (pkt (ack n)) stale
 
-    implied_datagram : (roomy : Bool) (d : Option Datagram) → Received past h (pkt (viewRead d)) (onDatagram roomy h a d)
+    implied_datagram : (roomy : Bool) (d : Option Datagram) → Received past h (pkt (view_read d)) (on_datagram roomy h a d)
     implied_datagram roomy none = ignored (pkt invalid) badBytes
     implied_datagram roomy (some (messageOf n to b)) = implied_message n to b (same to h.me) roomy refl
-    implied_datagram roomy (some (ackOf n)) = implied_ack n (among a h.peers && ltb (h.acknowledged a) n) refl
+    implied_datagram roomy (some (ack_of n)) = implied_ack n (among a h.peers && ltb (h.acknowledged a) n) refl
 
-  implied_room : (roomy : Bool) (o : Option Letter) → h.room ≡ o → (a : Address) (s : List ℕ) → Received past h (arrives h.me a s) (onRoom o roomy h a s)
+  implied_room : (roomy : Bool) (o : Option Letter) → h.room ≡ o → (a : Address) (s : List ℕ) → Received past h (arrives h.me a s) (on_room o roomy h a s)
   implied_room roomy (some l) e a s = ignored (arrives h.me a s) full
   implied_room roomy none e a s = implied_datagram e a roomy (read s)
 

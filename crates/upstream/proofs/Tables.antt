@@ -9,10 +9,10 @@ use native.Mathlib.Omega.{arith}
 use lib.ListN.{length}
 use lib.Dec.{eqb, ltb}
 use borrow.Author.Tests.{eqb-true, eqb-false, eq-eqb, ne_eqb, ltb-true, ltb-false}
-use Rattle.limits.specs.Limits.{valueMax}
+use Rattle.limits.specs.Limits.{value_max}
 use Rattle.format.specs.Format.{Entry, Above}
 use Rattle.protocol.specs.Records.{Value, look}
-use Rattle.protocol.specs.Process.{anyLong}
+use Rattle.protocol.specs.Process.{any_long}
 use Rattle.protocol.proofs.Entries.{look_below}
 use Rattle.upstream.specs.Messages.{Hashtable, Len}
 
@@ -62,14 +62,14 @@ pub len_unique : (h : Hashtable) (n : ℕ) (l : List Entry) → Above 0 l → ((
 len_unique h n l a e L = same_entries 0 l L.0 a L.1 (λ k. e k ∙ sym (L.2 k)) ∙ L.3
 
 -- a long value is a key's
-pub a_long_one : (low : ℕ) (l : List Entry) → Above low l → anyLong l ≡ true → (k : ℕ) × (v : Value) × (look k l ≡ some v) × (valueMax < length v) × (low ≤ k)
+pub a_long_one : (low : ℕ) (l : List Entry) → Above low l → any_long l ≡ true → (k : ℕ) × (v : Value) × (look k l ≡ some v) × (value_max < length v) × (low ≤ k)
 a_long_one low [] a e = absurd (false≢true e)
-a_long_one low (d ∷ l) a e = go (ltb valueMax (length d.value)) refl e (a_long_one (suc d.key) l a.1)
+a_long_one low (d ∷ l) a e = go (ltb value_max (length d.value)) refl e (a_long_one (suc d.key) l a.1)
   where
-    go : (t : Bool) → ltb valueMax (length d.value) ≡ t → t || anyLong l ≡ true
-        → (anyLong l ≡ true → (k : ℕ) × (v : Value) × (look k l ≡ some v) × (valueMax < length v) × (suc d.key ≤ k))
-        → (k : ℕ) × (v : Value) × (look k (d ∷ l) ≡ some v) × (valueMax < length v) × (low ≤ k)
-    go true p q f = (d.key, d.value, look_first d l, ltb-true valueMax (length d.value) p, a.0)
+    go : (t : Bool) → ltb value_max (length d.value) ≡ t → t || any_long l ≡ true
+        → (any_long l ≡ true → (k : ℕ) × (v : Value) × (look k l ≡ some v) × (value_max < length v) × (suc d.key ≤ k))
+        → (k : ℕ) × (v : Value) × (look k (d ∷ l) ≡ some v) × (value_max < length v) × (low ≤ k)
+    go true p q f = (d.key, d.value, look_first d l, ltb-true value_max (length d.value) p, a.0)
     go false p q f =
         let r = f q in
         let w = r.4 in

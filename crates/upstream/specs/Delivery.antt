@@ -5,7 +5,7 @@ use Rattle.std.proofs.Math.Option.{Option, none, some}
 use Rattle.message.specs.Message.{Address}
 use Rattle.protocol.specs.Address.{at}
 use Rattle.world.specs.Single.{Among}
-use Rattle.upstream.specs.Messages.{Message, SingleMessage, message, ack, invalid, Packet, Packets, Empty, Only, maxSeqno}
+use Rattle.upstream.specs.Messages.{Message, SingleMessage, message, ack, invalid, Packet, Packets, Empty, Only, max_seqno}
 
 -- a partial map with v at a
 abbrev pub insert : {A : Type 0} → Address → A → (Address → Option A) → Address → Option A
@@ -21,9 +21,9 @@ pub record AckState : Type 0 where
   pub acked : ℕ
   pub unacked : List SingleMessage
 
-abbrev pub ackOf : Option AckState → AckState
-ackOf none = record { acked = 0; unacked = [] }
-ackOf (some s) = s
+abbrev pub ack_of : Option AckState → AckState
+ack_of none = record { acked = 0; unacked = [] }
+ack_of (some s) = s
 
 pub record SingleDelivery : Type 0 where
   pub received : Address → Option ℕ
@@ -56,9 +56,9 @@ ShouldAck sd src invalid = ⊥
 -- receive_ack: what was received is free in the new state
 pub record ReceiveAck (pre post : SingleDelivery) (src : Address) (n : ℕ) (acks : Packets) : Type 0 where
   pub none_sent : Empty acks
-  pub more : (ackOf (pre.sends src)).acked < n
-      → post.sends ≡ insert src (record { acked = n; unacked = truncate (ackOf (pre.sends src)).unacked n }) pre.sends
-  pub stale : ((ackOf (pre.sends src)).acked < n → ⊥) → post ≡ pre
+  pub more : (ack_of (pre.sends src)).acked < n
+      → post.sends ≡ insert src (record { acked = n; unacked = truncate (ack_of (pre.sends src)).unacked n }) pre.sends
+  pub stale : ((ack_of (pre.sends src)).acked < n → ⊥) → post ≡ pre
 
 -- receive_real_packet
 pub record ReceiveReal (pre post : SingleDelivery) (p : Packet) : Type 0 where
@@ -89,18 +89,18 @@ Receive pre post p a acks = ReceiveAs p.msg pre post p a acks
 
 -- ---- sending
 
-abbrev pub newSeqno : SingleDelivery → Address → ℕ
-newSeqno sd dst = (ackOf (sd.sends dst)).acked + length (ackOf (sd.sends dst)).unacked + 1
+abbrev pub new_seqno : SingleDelivery → Address → ℕ
+new_seqno sd dst = (ack_of (sd.sends dst)).acked + length (ack_of (sd.sends dst)).unacked + 1
 
 -- send_single_message
 pub record SendSingle (pre post : SingleDelivery) (m : Message) (dst : Address) (sm : Option SingleMessage) : Type 0 where
-  pub too_many : maxSeqno < newSeqno pre dst → (post ≡ pre) × (sm ≡ none)
-  pub sent : newSeqno pre dst ≤ maxSeqno
-      → (sm ≡ some (message (newSeqno pre dst) dst m))
+  pub too_many : max_seqno < new_seqno pre dst → (post ≡ pre) × (sm ≡ none)
+  pub sent : new_seqno pre dst ≤ max_seqno
+      → (sm ≡ some (message (new_seqno pre dst) dst m))
       × (post ≡ record {
         received = pre.received;
         sends = insert dst
-            (record { acked = (ackOf (pre.sends dst)).acked; unacked = (ackOf (pre.sends dst)).unacked ++ (message (newSeqno pre dst) dst m ∷ []) })
+            (record { acked = (ack_of (pre.sends dst)).acked; unacked = (ack_of (pre.sends dst)).unacked ++ (message (new_seqno pre dst) dst m ∷ []) })
             pre.sends;
       })
 

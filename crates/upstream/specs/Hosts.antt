@@ -3,19 +3,19 @@
 -- Assumes nothing.
 use Rattle.std.specs.Prelude.{◌≡◌, cond, List, [], ◌∷◌, ◌++◌, ◌⊎◌, ℕ, ◌+◌, ◌-◌, ◌≤◌, ◌<◌, length}
 use Rattle.std.proofs.Math.Option.{Option, none, some}
-use Rattle.limits.specs.Limits.{bytesMax}
+use Rattle.limits.specs.Limits.{bytes_max}
 use Rattle.keys.specs.Bound.{holds}
 use Rattle.message.specs.Message.{Address}
 use Rattle.protocol.specs.Address.{at}
 use Rattle.protocol.specs.Records.{Value}
 use Rattle.world.specs.Single.{Among}
-use Rattle.upstream.specs.Messages.{Range, Contains, IsEmpty, Hashtable, Len, maxHashtableSize, ValidValue, ValidOptional, maxDelegations, Message, getRequest, setRequest, reply, redirect, shard, delegate, SingleMessage, message, ack, invalid, Packet, Packets, Empty, Only, SameSet}
+use Rattle.upstream.specs.Messages.{Range, Contains, IsEmpty, Hashtable, Len, max_hashtable_size, ValidValue, ValidOptional, max_delegations, Message, get_request, set_request, reply, redirect, shard, delegate, SingleMessage, message, ack, invalid, Packet, Packets, Empty, Only, SameSet}
 use Rattle.upstream.specs.Delivery.{SingleDelivery, fresh, New, Receive, SendSingle, UnAcked}
 
 -- AppRequest: it has no sender and no answer
 pub data AppRequest : Type 0 where
-  appGet : (seqno : ℕ) → (key : ℕ) → AppRequest
-  appSet : (seqno : ℕ) → (key : ℕ) → Option Value → AppRequest
+  app_get : (seqno : ℕ) → (key : ℕ) → AppRequest
+  app_set : (seqno : ℕ) → (key : ℕ) → Option Value → AppRequest
 
 pub record Constants : Type 0 where
   pub root : Address
@@ -40,13 +40,13 @@ Complete s = (k : ℕ) → (a : Address) × (s.delegation k ≡ some a)
 
 -- valid_physical_address
 abbrev pub ValidAddress : Address → Type 0
-ValidAddress a = length a < bytesMax
+ValidAddress a = length a < bytes_max
 
 -- ---- tables and maps
 
 -- valid_hashtable
 abbrev pub ValidHashtable : Hashtable → Type 0
-ValidHashtable h = ((n : ℕ) × Len h n × (n < maxHashtableSize)) × ((k : ℕ) (v : Value) → h k ≡ some v → ValidValue v)
+ValidHashtable h = ((n : ℕ) × Len h n × (n < max_hashtable_size)) × ((k : ℕ) (v : Value) → h k ≡ some v → ValidValue v)
 
 -- the table u where it says something, else h
 abbrev pub preferred : Option Value → Option Value → Option Value
@@ -54,11 +54,11 @@ preferred none w = w
 preferred (some v) w = some v
 
 -- bulk_update_hashtable: in the range what u says, outside it what u says before what h says
-abbrev pub bulkUpdate : Hashtable → Range → Hashtable → Hashtable
-bulkUpdate h r u k = preferred (u k) (cond (holds r.lo r.hi k) none (h k))
+abbrev pub bulk_update : Hashtable → Range → Hashtable → Hashtable
+bulk_update h r u k = preferred (u k) (cond (holds r.lo r.hi k) none (h k))
 
-abbrev pub bulkRemove : Hashtable → Range → Hashtable
-bulkRemove h r k = cond (holds r.lo r.hi k) none (h k)
+abbrev pub bulk_remove : Hashtable → Range → Hashtable
+bulk_remove h r k = cond (holds r.lo r.hi k) none (h k)
 
 -- extract_range
 abbrev pub extract : Hashtable → Range → Hashtable
@@ -79,8 +79,8 @@ abbrev pub OkayToIgnore : Type 0
 OkayToIgnore = Unit
 
 -- the state with these two fields, and all else from the new state itself
-abbrev pub nothingElse : State → State
-nothingElse post = record {
+abbrev pub nothing_else : State → State
+nothing_else post = record {
   constants = post.constants;
   delegation = post.delegation;
   table = post.table;
@@ -95,7 +95,7 @@ pub record Takes (pre post : State) (p : Packet) (out : Packets) (a : Packet) : 
   pub delivery : Receive pre.sd post.sd p a out
   pub new : New pre.sd p.src p.msg → post.received ≡ some p
   pub old : (New pre.sd p.src p.msg → ⊥) → post.received ≡ none
-  pub else : post ≡ nothingElse post
+  pub else : post ≡ nothing_else post
 
 pub record Ignores (pre post : State) (out : Packets) : Type 0 where
   pub may : ((p : Packet) × (pre.received ≡ some p)) ⊎ OkayToIgnore
@@ -110,34 +110,34 @@ ReceivePacket pre post p out a = Takes pre post p out a ⊎ Ignores pre post out
 pub data Io : Type 0 where
   receives : Packet → Io
   sends : Packet → Io
-  timesOut : Io
-  readsClock : Io
+  times_out : Io
+  reads_clock : Io
 
-abbrev pub sentList : List Io → List Packet
-sentList [] = []
-sentList (sends p ∷ l) = p ∷ sentList l
-sentList (receives p ∷ l) = sentList l
-sentList (timesOut ∷ l) = sentList l
-sentList (readsClock ∷ l) = sentList l
+abbrev pub sent_list : List Io → List Packet
+sent_list [] = []
+sent_list (sends p ∷ l) = p ∷ sent_list l
+sent_list (receives p ∷ l) = sent_list l
+sent_list (times_out ∷ l) = sent_list l
+sent_list (reads_clock ∷ l) = sent_list l
 
 -- extract_packets_from_abstract_ios: as a set
 abbrev pub sent : List Io → Packets
-sent l p = Among p (sentList l)
+sent l p = Among p (sent_list l)
 
 abbrev pub AllSends : List Io → Type 0
 AllSends [] = Unit
 AllSends (sends p ∷ l) = AllSends l
 AllSends (receives p ∷ l) = ⊥
-AllSends (timesOut ∷ l) = ⊥
-AllSends (readsClock ∷ l) = ⊥
+AllSends (times_out ∷ l) = ⊥
+AllSends (reads_clock ∷ l) = ⊥
 
 -- receive_packet_next
 abbrev pub ReceivePacketNext : (pre post : State) → List Io → Type 0
 ReceivePacketNext pre post [] = ⊥
-ReceivePacketNext pre post (timesOut ∷ l) = (post ≡ pre) × (l ≡ [])
+ReceivePacketNext pre post (times_out ∷ l) = (post ≡ pre) × (l ≡ [])
 ReceivePacketNext pre post (receives p ∷ l) = Complete pre × AllSends l × ((a : Packet) × ReceivePacket pre post p (sent (receives p ∷ l)) a)
 ReceivePacketNext pre post (sends p ∷ l) = ⊥
-ReceivePacketNext pre post (readsClock ∷ l) = ⊥
+ReceivePacketNext pre post (reads_clock ∷ l) = ⊥
 
 -- ---- processing
 
@@ -181,7 +181,7 @@ pub record GetAnswered (pre post : State) (src : Address) (seqno k : ℕ) (out :
   pub m : Message
   pub n : ℕ
   pub b : Message
-  pub mine : pre.delegation k ≡ some pre.constants.me → (m ≡ reply k (pre.table k)) × (post.requests ≡ pre.requests ++ (appGet seqno k ∷ []))
+  pub mine : pre.delegation k ≡ some pre.constants.me → (m ≡ reply k (pre.table k)) × (post.requests ≡ pre.requests ++ (app_get seqno k ∷ []))
   pub other : (a : Address) → pre.delegation k ≡ some a → (a ≡ pre.constants.me → ⊥) → (m ≡ redirect k a) × (post.requests ≡ pre.requests)
   pub answers : Answers pre post src m sm n b out
 
@@ -199,7 +199,7 @@ pub record SetAnswered (pre post : State) (src : Address) (seqno k : ℕ) (v : O
   pub b : Message
   pub mine : pre.delegation k ≡ some pre.constants.me
       → (post.table k ≡ v) × ((j : ℕ) → (j ≡ k → ⊥) → post.table j ≡ pre.table j) × (m ≡ reply k v)
-      × (post.requests ≡ pre.requests ++ (appSet seqno k v ∷ []))
+      × (post.requests ≡ pre.requests ++ (app_set seqno k v ∷ []))
   pub other : (a : Address) → pre.delegation k ≡ some a → (a ≡ pre.constants.me → ⊥)
       → (post.table ≡ pre.table) × (m ≡ redirect k a) × (post.requests ≡ pre.requests)
   pub answers : Answers pre post src m sm n b out
@@ -212,7 +212,7 @@ NextSet pre post src seqno k v out =
 -- next_delegate: the sender is on the list, or it is not
 pub record NextDelegate (pre post : State) (src : Address) (r : Range) (u : Hashtable) (out : Packets) : Type 0 where
   pub from_host : Among src pre.constants.hosts
-      → (post.delegation ≡ update pre.delegation r pre.constants.me) × (post.table ≡ bulkUpdate pre.table r u)
+      → (post.delegation ≡ update pre.delegation r pre.constants.me) × (post.table ≡ bulk_update pre.table r u)
       × (post.delegations ≡ pre.delegations + 1)
   pub from_other : (Among src pre.constants.hosts → ⊥)
       → (post.delegation ≡ pre.delegation) × (post.table ≡ pre.table) × (post.delegations ≡ pre.delegations)
@@ -226,7 +226,7 @@ abbrev pub ShardSent : Option SingleMessage → (pre post : State) → Range →
 ShardSent none pre post r a out = Empty out × (post.delegation ≡ pre.delegation) × (post.table ≡ pre.table)
 ShardSent (some sm) pre post r a out =
     Only (record { dst = a; src = pre.constants.me; msg = sm }) out × (post.delegation ≡ update pre.delegation r a)
-    × (post.table ≡ bulkRemove pre.table r)
+    × (post.table ≡ bulk_remove pre.table r)
 
 pub record NextShard (pre post : State) (r : Range) (a : Address) (sm : Option SingleMessage) (out : Packets) : Type 0 where
   pub other : a ≡ pre.constants.me → ⊥
@@ -242,7 +242,7 @@ pub record NextShard (pre post : State) (r : Range) (a : Address) (sm : Option S
 abbrev pub MustReject : State → Range → Address → Type 0
 MustReject pre r a =
     (a ≡ pre.constants.me) ⊎ ((ValidAddress a → ⊥) ⊎ (IsEmpty r ⊎ ((Among a pre.constants.hosts → ⊥) ⊎ ((AllOf pre.delegation r pre.constants.me → ⊥)
-    ⊎ ((n : ℕ) × Len (extract pre.table r) n × (maxHashtableSize ≤ n))))))
+    ⊎ ((n : ℕ) × Len (extract pre.table r) n × (max_hashtable_size ≤ n))))))
 
 -- next_shard_wrapper
 pub record NextShardWrapper (pre post : State) (r : Range) (a : Address) (out : Packets) : Type 0 where
@@ -251,8 +251,8 @@ pub record NextShardWrapper (pre post : State) (r : Range) (a : Address) (out : 
 
 -- what processing a message does, by its kind
 abbrev pub Processed : (pre post : State) → Address → ℕ → Message → Packets → Type 0
-Processed pre post src seqno (getRequest k) out = NextGet pre post src seqno k out
-Processed pre post src seqno (setRequest k v) out = NextSet pre post src seqno k v out
+Processed pre post src seqno (get_request k) out = NextGet pre post src seqno k out
+Processed pre post src seqno (set_request k v) out = NextSet pre post src seqno k v out
 Processed pre post src seqno (delegate r u) out = NextDelegate pre post src r u out
 Processed pre post src seqno (shard r a) out = NextShardWrapper pre post r a out
 Processed pre post src seqno (reply k v) out = Unanswered pre post out
@@ -260,12 +260,12 @@ Processed pre post src seqno (redirect k a) out = Unanswered pre post out
 
 -- should_process_received_message
 abbrev pub ShouldProcess : State → Message → Type 0
-ShouldProcess pre (getRequest k) = Unit
-ShouldProcess pre (setRequest k v) = Unit
+ShouldProcess pre (get_request k) = Unit
+ShouldProcess pre (set_request k v) = Unit
 ShouldProcess pre (reply k v) = Unit
 ShouldProcess pre (redirect k a) = Unit
-ShouldProcess pre (shard r a) = pre.delegations < maxDelegations - 2
-ShouldProcess pre (delegate r u) = pre.delegations < maxDelegations - 2
+ShouldProcess pre (shard r a) = pre.delegations < max_delegations - 2
+ShouldProcess pre (delegate r u) = pre.delegations < max_delegations - 2
 
 abbrev pub Stays : (pre post : State) → Packets → Type 0
 Stays pre post out = (post ≡ pre) × Empty out
@@ -291,8 +291,8 @@ IgnoresDelegate (message s d (delegate r u)) pre post =
     ((ValidHashtable u × (IsEmpty r → ⊥) × ValidAddress d) → ⊥)
     × (ShouldProcess pre (delegate r u) → post ≡ freed pre)
     × ((ShouldProcess pre (delegate r u) → ⊥) → post ≡ pre)
-IgnoresDelegate (message s d (getRequest k)) pre post = ⊥
-IgnoresDelegate (message s d (setRequest k v)) pre post = ⊥
+IgnoresDelegate (message s d (get_request k)) pre post = ⊥
+IgnoresDelegate (message s d (set_request k v)) pre post = ⊥
 IgnoresDelegate (message s d (reply k v)) pre post = ⊥
 IgnoresDelegate (message s d (redirect k a)) pre post = ⊥
 IgnoresDelegate (message s d (shard r a)) pre post = ⊥
@@ -312,27 +312,27 @@ RetransmitNext pre post l =
 -- ---- the step
 
 pub data Step : Type 0 where
-  receivePacket : Step
-  processPacket : Step
-  retransmitAll : Step
+  receive_packet : Step
+  process_packet : Step
+  retransmit_all : Step
   stutter : Step
-  ignoreUnparseable : Step
-  ignoreNonsense : Step
+  ignore_unparseable : Step
+  ignore_nonsense : Step
 
 -- ignore_unparseable_packet
 abbrev pub IgnoresUnparseable : (pre post : State) → List Io → Type 0
 IgnoresUnparseable pre post l = (p : Packet) × (l ≡ receives p ∷ []) × (p.msg ≡ invalid) × (pre ≡ post)
 
 abbrev pub NextStep : Step → (pre post : State) → List Io → Type 0
-NextStep receivePacket pre post l = ReceivePacketNext pre post l
-NextStep processPacket pre post l = ProcessNext pre post l
-NextStep retransmitAll pre post l = RetransmitNext pre post l
+NextStep receive_packet pre post l = ReceivePacketNext pre post l
+NextStep process_packet pre post l = ProcessNext pre post l
+NextStep retransmit_all pre post l = RetransmitNext pre post l
 NextStep stutter pre post l = (pre ≡ post) × (l ≡ [])
-NextStep ignoreUnparseable pre post l = IgnoresUnparseable pre post l
-NextStep ignoreNonsense pre post l = IgnoresNonsense pre post l
+NextStep ignore_unparseable pre post l = IgnoresUnparseable pre post l
+NextStep ignore_nonsense pre post l = IgnoresNonsense pre post l
 
 abbrev pub NoInvalidSends : List Io → Type 0
-NoInvalidSends l = (p : Packet) → Among p (sentList l) → p.msg ≡ invalid → ⊥
+NoInvalidSends l = (p : Packet) → Among p (sent_list l) → p.msg ≡ invalid → ⊥
 
 -- next
 pub record Next (pre post : State) (l : List Io) : Type 0 where

@@ -3,7 +3,7 @@
 -- Assumes nothing.
 use Rattle.std.specs.Prelude.{◌≡◌, true, false, List, ℕ, suc, ◌-◌, ◌<◌, length}
 use Rattle.std.proofs.Math.Option.{Option, none, some}
-use Rattle.limits.specs.Limits.{valueMax, entriesLimit, numbers, transfersLimit as mostTransfers}
+use Rattle.limits.specs.Limits.{value_max, entries_limit, numbers, transfers_limit as mostTransfers}
 use Rattle.keys.specs.declared.Bound.{Bound}
 use Rattle.keys.specs.Bound.{below, holds}
 use Rattle.format.specs.Format.{Entry, Above}
@@ -33,30 +33,30 @@ abbrev pub Len : Hashtable → ℕ → Type 0
 Len h n = (es : List Entry) × Above 0 es × ((k : ℕ) → look k es ≡ h k) × (length es ≡ n)
 
 -- max_val_len, max_hashtable_size
-abbrev pub maxValLen : ℕ
-maxValLen = suc valueMax
+abbrev pub max_val_len : ℕ
+max_val_len = suc value_max
 
-abbrev pub maxHashtableSize : ℕ
-maxHashtableSize = entriesLimit
+abbrev pub max_hashtable_size : ℕ
+max_hashtable_size = entries_limit
 
 abbrev pub ValidValue : Value → Type 0
-ValidValue v = length v < maxValLen
+ValidValue v = length v < max_val_len
 
 abbrev pub ValidOptional : Option Value → Type 0
 ValidOptional none = Unit
 ValidOptional (some v) = ValidValue v
 
 -- abstract_parameters_t
-abbrev pub maxSeqno : ℕ
-maxSeqno = numbers - 1
+abbrev pub max_seqno : ℕ
+max_seqno = numbers - 1
 
-abbrev pub maxDelegations : ℕ
-maxDelegations = mostTransfers
+abbrev pub max_delegations : ℕ
+max_delegations = mostTransfers
 
 -- message_t
 pub data Message : Type 0 where
-  getRequest : ℕ → Message
-  setRequest : ℕ → Option Value → Message
+  get_request : ℕ → Message
+  set_request : ℕ → Option Value → Message
   reply : ℕ → Option Value → Message
   redirect : ℕ → Address → Message
   shard : Range → Address → Message

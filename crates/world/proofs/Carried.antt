@@ -21,7 +21,7 @@ use Rattle.protocol.proofs.Addresses.{same_false}
 use Rattle.protocol.proofs.Entries.{look_replacing, above_replacing, or_else}
 use Rattle.world.specs.World.{Executed}
 use Rattle.world.specs.Events.{noted}
-use Rattle.world.specs.Claims.{mine, inRoom, moves, says}
+use Rattle.world.specs.Claims.{mine, in_room, moves, says}
 use Rattle.world.specs.Single.{table_of}
 use Rattle.world.proofs.Lists.{All}
 use Rattle.world.proofs.Sums.{sum, sum2, sum_at, sum2_at}
@@ -35,11 +35,11 @@ use Rattle.world.proofs.Given.{given_in, given_out, given_host, test, one_moved,
 
 module _ {H : List Address} {S : States} {E : List Executed} {M C : Moves} (K : Core H S E M C) (d : different H ≡ true) (x : Address)
     (isHost : among x H ≡ true) (l : Letter) (there : (S x).room ≡ some l) (sender : among l.from H ≡ true) where
-  in_room : inRoom l.from (S x).room ≡ l.body ∷ []
-  in_room = ap (inRoom l.from) there ∙ rw (same_refl l.from) refl
+  in_room_lem : in_room l.from (S x).room ≡ l.body ∷ []
+  in_room_lem = ap (in_room l.from) there ∙ rw (same_refl l.from) refl
 
   link_there : Link (M l.from x) (C l.from x) ((S l.from).waiting x) ((S l.from).acknowledged x) ((S x).received l.from) (l.body ∷ [])
-  link_there = link_as refl refl refl refl refl (sym in_room) (K.link l.from x sender isHost)
+  link_there = link_as refl refl refl refl refl (sym in_room_lem) (K.link l.from x sender isHost)
 
   -- it is one that cannot be refused
   pub room_fair : Fair l.body
@@ -73,10 +73,10 @@ module _ {H : List Address} {S : States} {E : List Executed} {M C : Moves} (K : 
       waiting = keep x g S (λ f. f.waiting b) a (λ e. ap (λ (z : Address). (S z).waiting b) (sym e));
       acknowledged = keep x g S (λ f. f.acknowledged b) a (λ e. ap (λ (z : Address). (S z).acknowledged b) (sym e));
       received = keep x g S (λ f. f.received a) b (λ e. ap (λ (z : Address). (S z).received a) (sym e));
-      room = keep x g S (λ f. inRoom a f.room) b
+      room = keep x g S (λ f. in_room a f.room) b
           (λ e.
           let u : same l.from a ≡ false = same_false l.from a (λ w. n (sym w) e) in
-          let v : inRoom a (S b).room ≡ [] = ap (inRoom a) (ap (λ (z : Address). (S z).room) e ∙ there) ∙ rw u refl in
+          let v : in_room a (S b).room ≡ [] = ap (in_room a) (ap (λ (z : Address). (S z).room) e ∙ there) ∙ rw u refl in
           sym v);
     }
 
@@ -85,7 +85,7 @@ module _ {H : List Address} {S : States} {E : List Executed} {M C : Moves} (K : 
     rest = drop ((S x).received l.from - (S l.from).acknowledged x) ((S l.from).waiting x)
 
     way_before : way S l.from x ≡ l.body ∷ rest
-    way_before = ap (λ (r : List Body). r ++ rest) in_room
+    way_before = ap (λ (r : List Body). r ++ rest) in_room_lem
 
     waiting_same : (T l.from).waiting x ≡ (S l.from).waiting x
     waiting_same = keep x g S (λ f. f.waiting x) l.from (λ q. ap (λ (z : Address). (S z).waiting x) (sym q))
@@ -96,8 +96,8 @@ module _ {H : List Address} {S : States} {E : List Executed} {M C : Moves} (K : 
     received_same : (T x).received l.from ≡ (S x).received l.from
     received_same = ap (λ (f : Host). f.received l.from) (at_self x g S x refl)
 
-    room_free : inRoom l.from (T x).room ≡ []
-    room_free = ap (λ (f : Host). inRoom l.from f.room) (at_self x g S x refl)
+    room_free : in_room l.from (T x).room ≡ []
+    room_free = ap (λ (f : Host). in_room l.from f.room) (at_self x g S x refl)
 
     way_after : way T l.from x ≡ rest
     way_after = way_as waiting_same acknowledged_same received_same room_free

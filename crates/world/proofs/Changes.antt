@@ -10,7 +10,7 @@ use Rattle.decoding.specs.Decode.{same}
 use Rattle.decoding.proofs.Decided.{same_true, same_refl}
 use Rattle.protocol.specs.Address.{among, at}
 use Rattle.world.specs.Events.{noted}
-use Rattle.world.specs.Claims.{mine, inRoom}
+use Rattle.world.specs.Claims.{mine, in_room}
 use Rattle.world.proofs.Sums.{sum_same, sum2_same}
 use Rattle.world.proofs.Links.{Link}
 use Rattle.world.proofs.Invariant.{States, Moves, LinkOf, way, bit, own, moving, ways, total}
@@ -60,7 +60,7 @@ pub record Cell (S : States) (M C : Moves) (S' : States) (M' C' : Moves) (a b : 
   pub waiting : (S' a).waiting b ≡ (S a).waiting b
   pub acknowledged : (S' a).acknowledged b ≡ (S a).acknowledged b
   pub received : (S' b).received a ≡ (S b).received a
-  pub room : inRoom a (S' b).room ≡ inRoom a (S b).room
+  pub room : in_room a (S' b).room ≡ in_room a (S b).room
 
 pub link_as : {M M' C C' w w' : List Body} {a a' r r' : ℕ} {R R' : List Body} → M' ≡ M → C' ≡ C → w' ≡ w → a' ≡ a → r' ≡ r → R' ≡ R
     → Link M C w a r R → Link M' C' w' a' r' R'

@@ -9,7 +9,7 @@ use Rattle.keys.specs.declared.Bound.{Bound}
 use Rattle.keys.specs.Bound.{holds}
 use Rattle.message.specs.Message.{Address, Body}
 use Rattle.protocol.specs.Address.{among}
-use Rattle.protocol.specs.Owners.{Owners, ownerOf, giving}
+use Rattle.protocol.specs.Owners.{Owners, owner_of, giving}
 use Rattle.protocol.specs.State.{different}
 use Rattle.world.specs.Claims.{moves, says}
 use Rattle.world.proofs.Sums.{sum, sum2, sum_change, sum2_change}
@@ -19,18 +19,18 @@ use Rattle.world.proofs.Changes.{cases}
 -- ---- the map after a range was given away
 
 -- who owns a key then
-pub given_in : (lo hi : Bound) (a : Address) (o : Owners) (k : ℕ) → holds lo hi k ≡ true → ownerOf (giving lo hi a o) k ≡ a
+pub given_in : (lo hi : Bound) (a : Address) (o : Owners) (k : ℕ) → holds lo hi k ≡ true → owner_of (giving lo hi a o) k ≡ a
 given_in lo hi a o k e = rw e refl
 
-pub given_out : (lo hi : Bound) (a : Address) (o : Owners) (k : ℕ) → holds lo hi k ≡ false → ownerOf (giving lo hi a o) k ≡ ownerOf o k
+pub given_out : (lo hi : Bound) (a : Address) (o : Owners) (k : ℕ) → holds lo hi k ≡ false → owner_of (giving lo hi a o) k ≡ owner_of o k
 given_out lo hi a o k e = rw e refl
 
 -- .. a host, if all owners were and the new one is
-pub given_host : (H : List Address) (lo hi : Bound) (a : Address) (o : Owners) → among a H ≡ true → ((k : ℕ) → among (ownerOf o k) H ≡ true)
-    → (k : ℕ) → among (ownerOf (giving lo hi a o) k) H ≡ true
+pub given_host : (H : List Address) (lo hi : Bound) (a : Address) (o : Owners) → among a H ≡ true → ((k : ℕ) → among (owner_of o k) H ≡ true)
+    → (k : ℕ) → among (owner_of (giving lo hi a o) k) H ≡ true
 given_host H lo hi a o e f k = go (holds lo hi k)
   where
-    go : (t : Bool) → among (cond t a (ownerOf o k)) H ≡ true
+    go : (t : Bool) → among (cond t a (owner_of o k)) H ≡ true
     go true = e
     go false = f k
 

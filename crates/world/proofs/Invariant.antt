@@ -7,18 +7,18 @@ use mathlib.Core.List.{List, [], ◌∷◌, ◌++◌}
 use mathlib.Core.Option.{some, none}
 use Prim.Native.Nat.{ℕ, suc, ◌+◌, ◌-◌, ◌≤◌, ◌<◌}
 use lib.ListN.{length, drop}
-use Rattle.limits.specs.Limits.{bytesMax, valueMax}
+use Rattle.limits.specs.Limits.{bytes_max, value_max}
 use Rattle.format.specs.Number.{numbers}
 use Rattle.format.specs.Format.{Entry, Above}
 use Rattle.message.specs.Message.{Address, Body, get, set, reply, redirect, shard, delegate, Datagram, message, ack}
 use Rattle.message.specs.Table.{written, Valid}
 use Rattle.protocol.specs.Address.{among}
 use Rattle.protocol.specs.Records.{look}
-use Rattle.protocol.specs.Owners.{ownerOf}
+use Rattle.protocol.specs.Owners.{owner_of}
 use Rattle.protocol.specs.State.{Host, Letter, short}
 use Rattle.world.specs.World.{Sent, Executed, World}
 use Rattle.world.specs.Events.{nth}
-use Rattle.world.specs.Claims.{mine, inRoom, moves, says}
+use Rattle.world.specs.Claims.{mine, in_room, moves, says}
 use Rattle.world.specs.Single.{table_of, Answered, Once}
 use Rattle.world.specs.Theorem.{Explains}
 use Rattle.world.proofs.Lists.{All}
@@ -35,7 +35,7 @@ Moves = Address → Address → List Body
 
 -- an entry that a table keeps
 abbrev pub Kept : Entry → Type 0
-Kept e = (e.key < numbers) × (length e.value ≤ valueMax)
+Kept e = (e.key < numbers) × (length e.value ≤ value_max)
 
 -- what the message with the number n, from the host x to c, says is so: a Reply answers a request that was carried out, a Redirect names a host
 abbrev pub Told : (H : List Address) → List Executed → (x c : Address) → ℕ → Body → Type 0
@@ -56,13 +56,13 @@ pub record Lettered (E : List Executed) (x : Address) (h : Host) (l : Letter) : 
   pub last : l.number ≡ h.received l.from
   pub valid : Valid (message l.number x l.body)
   pub known : among l.from h.peers ≡ true
-  pub short : length l.from < bytesMax
+  pub short : length l.from < bytes_max
   pub undone : All (λ e. e.host ≡ x → e.request.from ≡ l.from → e.request.number < l.number) E
 
 pub record Local (H : List Address) (E : List Executed) (x : Address) (h : Host) : Type 0 where
   pub me_is : h.me ≡ x
   pub hosts_are : h.hosts ≡ H
-  pub owner_in : (k : ℕ) → among (ownerOf h.owners k) H ≡ true
+  pub owner_in : (k : ℕ) → among (owner_of h.owners k) H ≡ true
   -- hosts have a place, and so has whoever something waits for
   pub hosts_known : (a : Address) → among a H ≡ true → among a h.peers ≡ true
   pub waits_known : (a : Address) → (h.waiting a ≡ [] → ⊥) → among a h.peers ≡ true
@@ -78,11 +78,11 @@ pub record Local (H : List Address) (E : List Executed) (x : Address) (h : Host)
 -- ---- two hosts
 
 abbrev pub LinkOf : States → Moves → Moves → (a b : Address) → Type 0
-LinkOf S M C a b = Link (M a b) (C a b) ((S a).waiting b) ((S a).acknowledged b) ((S b).received a) (inRoom a (S b).room)
+LinkOf S M C a b = Link (M a b) (C a b) ((S a).waiting b) ((S a).acknowledged b) ((S b).received a) (in_room a (S b).room)
 
 -- what is on its way from a to b
 abbrev pub way : States → (a b : Address) → List Body
-way S a b = inRoom a (S b).room ++ drop ((S b).received a - (S a).acknowledged b) ((S a).waiting b)
+way S a b = in_room a (S b).room ++ drop ((S b).received a - (S a).acknowledged b) ((S a).waiting b)
 
 -- ---- claims, counted
 

@@ -9,16 +9,16 @@ use native.Mathlib.Omega.{arith}
 use lib.ListN.{length}
 use lib.Dec.{eqb, ltb, leb}
 use borrow.Author.Tests.{ltb-false, le-ltb, leb-false}
-use Rattle.limits.specs.Limits.{valueMax, entriesLimit}
+use Rattle.limits.specs.Limits.{value_max, entries_limit}
 use Rattle.keys.specs.declared.Bound.{Bound}
 use Rattle.keys.specs.Bound.{below, holds}
 use Rattle.format.specs.Format.{Entry, Small, Above, Good, maybe, number}
 use Rattle.message.specs.Message.{Body, delegate}
-use Rattle.message.specs.Table.{body, bodyValue, key_of}
+use Rattle.message.specs.Table.{body, body_value, key_of}
 use Rattle.message.proofs.Laws.{Short, few_fit}
 use Rattle.protocol.specs.Records.{Value, look, kept, without, filed, setting, in_range, outside, storing, replacing}
-use Rattle.protocol.specs.Process.{anyLong}
-use Rattle.protocol.proofs.Entries.{above_kept, look_inRange}
+use Rattle.protocol.specs.Process.{any_long}
+use Rattle.protocol.proofs.Entries.{above_kept, look_in_range}
 use Rattle.world.proofs.Lists.{All}
 use Rattle.world.proofs.Links.{Fair}
 use Rattle.world.proofs.Invariant.{Kept}
@@ -59,11 +59,11 @@ module _ (P : Entry → Type 0) where
 -- ---- what follows
 
 -- a value that a key holds is short
-pub look_short : (k : ℕ) (l : List Entry) → All Kept l → (v : Value) → look k l ≡ some v → length v ≤ valueMax
+pub look_short : (k : ℕ) (l : List Entry) → All Kept l → (v : Value) → look k l ≡ some v → length v ≤ value_max
 look_short k [] A v e = absurd (none-ne-some v e)
 look_short k (d ∷ l) A v e = go (eqb k d.key) e (look_short k l A.1 v)
   where
-    go : (t : Bool) → cond t (some d.value) (look k l) ≡ some v → (look k l ≡ some v → length v ≤ valueMax) → length v ≤ valueMax
+    go : (t : Bool) → cond t (some d.value) (look k l) ≡ some v → (look k l ≡ some v → length v ≤ value_max) → length v ≤ value_max
     go true q r = let u : length d.value ≡ length v = ap length (some-injective d.value v q) in omega (arith, u, A.0.1)
     go false q r = r q
 
@@ -75,25 +75,25 @@ kept_short : (l : List Entry) → All Kept l → Short l
 kept_short [] A = tt
 kept_short (e ∷ l) A = (A.0.1, kept_short l A.1)
 
-kept_not_long : (l : List Entry) → All Kept l → anyLong l ≡ false
+kept_not_long : (l : List Entry) → All Kept l → any_long l ≡ false
 kept_not_long [] A = refl
-kept_not_long (e ∷ l) A = rw (le-ltb valueMax (length e.value) A.0.1) (kept_not_long l A.1)
+kept_not_long (e ∷ l) A = rw (le-ltb value_max (length e.value) A.0.1) (kept_not_long l A.1)
 
 -- .. and conversely
-pub short_kept : (l : List Entry) → Small l → anyLong l ≡ false → All Kept l
+pub short_kept : (l : List Entry) → Small l → any_long l ≡ false → All Kept l
 short_kept [] s e = tt
-short_kept (d ∷ l) s e = go (ltb valueMax (length d.value)) refl e (short_kept l s.2)
+short_kept (d ∷ l) s e = go (ltb value_max (length d.value)) refl e (short_kept l s.2)
   where
-    go : (t : Bool) → ltb valueMax (length d.value) ≡ t → t || anyLong l ≡ false → (anyLong l ≡ false → All Kept l) → All Kept (d ∷ l)
+    go : (t : Bool) → ltb value_max (length d.value) ≡ t → t || any_long l ≡ false → (any_long l ≡ false → All Kept l) → All Kept (d ∷ l)
     go true q r f = absurd (false≢true (sym r))
-    go false q r f = ((s.0, ltb-false valueMax (length d.value) q), f r)
+    go false q r f = ((s.0, ltb-false value_max (length d.value) q), f r)
 
 -- the entries of a range as a transfer
-pub fair_range : (lo hi : Bound) (l : List Entry) → Above 0 l → All Kept l → below lo hi ≡ true → leb entriesLimit (length (in_range lo hi l)) ≡ false
+pub fair_range : (lo hi : Bound) (l : List Entry) → Above 0 l → All Kept l → below lo hi ≡ true → leb entries_limit (length (in_range lo hi l)) ≡ false
     → Good (maybe number) (key_of lo) → Good (maybe number) (key_of hi) → Fair (delegate lo hi (in_range lo hi l))
 fair_range lo hi l sorted A range few g w =
     let B : All Kept (in_range lo hi l) = all_kept Kept (holds lo hi) l A in
-    let f : length (in_range lo hi l) < entriesLimit = leb-false entriesLimit (length (in_range lo hi l)) few in record {
+    let f : length (in_range lo hi l) < entries_limit = leb-false entries_limit (length (in_range lo hi l)) few in record {
       lo = lo;
       hi = hi;
       entries = in_range lo hi l;
@@ -101,7 +101,7 @@ fair_range lo hi l sorted A range few g w =
       range = range;
       few = few;
       short = kept_not_long (in_range lo hi l) B;
-      inside = λ k e. look_inRange lo hi k l ∙ rw e refl;
+      inside = λ k e. look_in_range lo hi k l ∙ rw e refl;
       good = (omega arith, ((g, w), (omega (arith, f), kept_small (in_range lo hi l) B, above_kept (holds lo hi) 0 l sorted, few_fit (in_range lo hi l) f (kept_short (in_range lo hi l) B))));
     }
 
@@ -110,5 +110,5 @@ pub fair_kept : (b : Body) (F : Fair b) → All Kept F.entries
 fair_kept b F = short_kept F.entries F.good.1.1.1 F.short
 
 -- and it may be written
-pub fair_good : (b : Body) → Fair b → Good body (bodyValue b)
-fair_good b F = subst (λ (z : Body). Good body (bodyValue z)) (sym F.is) F.good
+pub fair_good : (b : Body) → Fair b → Good body (body_value b)
+fair_good b F = subst (λ (z : Body). Good body (body_value z)) (sym F.is) F.good

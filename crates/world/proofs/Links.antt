@@ -9,14 +9,14 @@ use Prim.Native.Nat.{ℕ, suc, ◌+◌, ◌-◌, ◌≤◌}
 use native.Mathlib.Omega.{arith}
 use lib.ListN.{length, take, drop, length-append, length-drop, take-append-drop}
 use lib.Dec.{leb}
-use Rattle.limits.specs.Limits.{entriesLimit}
+use Rattle.limits.specs.Limits.{entries_limit}
 use Rattle.keys.specs.declared.Bound.{Bound}
 use Rattle.keys.specs.Bound.{below, holds}
 use Rattle.format.specs.Format.{Entry, Good}
 use Rattle.message.specs.Message.{Body, delegate}
-use Rattle.message.specs.Table.{body, bodyValue}
+use Rattle.message.specs.Table.{body, body_value}
 use Rattle.protocol.specs.Records.{look}
-use Rattle.protocol.specs.Process.{anyLong}
+use Rattle.protocol.specs.Process.{any_long}
 use Rattle.world.specs.Events.{nth}
 use Rattle.world.proofs.Lists.{All, all_append, all_take, all_right, take_append, drop_append, take_nth, nth_less, drop_nth, drop_drop}
 
@@ -27,10 +27,10 @@ pub record Fair (b : Body) : Type 0 where
   pub entries : List Entry
   pub is : b ≡ delegate lo hi entries
   pub range : below lo hi ≡ true
-  pub few : leb entriesLimit (length entries) ≡ false
-  pub short : anyLong entries ≡ false
+  pub few : leb entries_limit (length entries) ≡ false
+  pub short : any_long entries ≡ false
   pub inside : (k : ℕ) → holds lo hi k ≡ false → look k entries ≡ none
-  pub good : Good body (bodyValue (delegate lo hi entries))
+  pub good : Good body (body_value (delegate lo hi entries))
 
 -- M were made and C carried out; w wait, of which a were acknowledged before; r were received, R is in the recipient's room
 pub record Link (M C w : List Body) (a r : ℕ) (R : List Body) : Type 0 where

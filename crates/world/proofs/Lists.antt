@@ -45,6 +45,7 @@ module _ {A : Type 0} (P : A → Type 0) where
   all_nth (suc n) (y ∷ l) x p e = all_nth n l x p.1 e
 
   pub all_among : (l : List A) (x : A) → All P l → Among x l → P x
+  all_among [] x p q = elim q [ ]
   all_among (y ∷ l) x p (inl e) = subst P (sym e) p.0
   all_among (y ∷ l) x p (inr q) = all_among l x p.1 q
 
@@ -56,6 +57,7 @@ all_map P Q f (x ∷ l) p = (f x p.0, all_map P Q f l p.1)
 
 module _ {A : Type 0} where
   pub among_left : (x : A) (l m : List A) → Among x l → Among x (l ++ m)
+  among_left x [] m a = elim a [ ]
   among_left x (y ∷ l) m (inl e) = inl e
   among_left x (y ∷ l) m (inr a) = inr (among_left x l m a)
 

@@ -8,7 +8,7 @@ use mathlib.Core.Logic.{inr}
 use Prim.Native.Nat.{ℕ, zero, suc, ◌+◌, ◌-◌, ◌≤◌, ◌<◌}
 use native.Mathlib.Omega.{arith}
 use lib.ListN.{length, drop, length-append, length-drop}
-use Rattle.limits.specs.Limits.{bytesMax}
+use Rattle.limits.specs.Limits.{bytes_max}
 use Rattle.format.specs.Number.{numbers}
 use Rattle.format.specs.Format.{Entry, Above}
 use Rattle.message.specs.Message.{Address, Body, get, set, reply, redirect, shard, delegate, message}
@@ -16,7 +16,7 @@ use Rattle.message.specs.Table.{Valid}
 use Rattle.decoding.specs.Decode.{same}
 use Rattle.decoding.proofs.Decided.{same_true, same_refl}
 use Rattle.protocol.specs.Address.{among, at}
-use Rattle.protocol.specs.Owners.{Owners, ownerOf}
+use Rattle.protocol.specs.Owners.{Owners, owner_of}
 use Rattle.protocol.specs.State.{Host, Letter, took, done}
 use Rattle.protocol.specs.Delivery.{next, posted, confirmed}
 use Rattle.world.specs.World.{Executed}
@@ -58,7 +58,7 @@ module _ (H : List Address) (E : List Executed) (x c : Address) where
 module _ {H : List Address} {E : List Executed} {x : Address} {h : Host} (L : Local H E x h) where
   -- a message was taken from a, the next one of a's
   module _ (a : Address) (n : ℕ) (b : Body) (peers : List Address) (new : n ≡ suc (h.received a)) (valid : Valid (message n x b))
-      (short : length a < bytesMax) (All-stay : (c : Address) → among c h.peers ≡ true → among c peers ≡ true) (joins : among a peers ≡ true) where
+      (short : length a < bytes_max) (All-stay : (c : Address) → among c h.peers ≡ true → among c peers ≡ true) (joins : among a peers ≡ true) where
     -- no count of messages received falls
     pub received_rises : (c : Address) → h.received c ≤ at a n h.received c
     received_rises c = go (same c a) refl
@@ -153,7 +153,7 @@ module _ {H : List Address} {E : List Executed} {x : Address} {h : Host} (L : Lo
         rest c false e O = O
 
   -- the message in the room is done with, and map and table are other ones
-  pub local_done : (o : Owners) (es : List Entry) (t : ℕ) → ((k : ℕ) → among (ownerOf o k) H ≡ true) → Above 0 es → All Kept es
+  pub local_done : (o : Owners) (es : List Entry) (t : ℕ) → ((k : ℕ) → among (owner_of o k) H ≡ true) → Above 0 es → All Kept es
       → Local H E x (done o es t h)
   local_done o es t owner_in sorted kept = record {
     me_is = L.me_is;

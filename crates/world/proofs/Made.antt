@@ -16,14 +16,14 @@ use Rattle.decoding.specs.Decode.{same}
 use Rattle.decoding.proofs.Decided.{same_refl}
 use Rattle.protocol.specs.Address.{among, at}
 use Rattle.protocol.specs.Records.{look, in_range, outside}
-use Rattle.protocol.specs.Owners.{ownerOf, giving}
+use Rattle.protocol.specs.Owners.{owner_of, giving}
 use Rattle.protocol.specs.State.{Host, Letter, done, different}
 use Rattle.protocol.specs.Delivery.{next, posted}
 use Rattle.protocol.proofs.Addresses.{same_false, at_other, at_same}
-use Rattle.protocol.proofs.Entries.{look_inRange, look_outside, above_kept}
+use Rattle.protocol.proofs.Entries.{look_in_range, look_outside, above_kept}
 use Rattle.world.specs.World.{Executed}
 use Rattle.world.specs.Events.{noted}
-use Rattle.world.specs.Claims.{mine, inRoom, moves, says}
+use Rattle.world.specs.Claims.{mine, in_room, moves, says}
 use Rattle.world.specs.Single.{table_of}
 use Rattle.world.proofs.Lists.{All, all_append, drop_append}
 use Rattle.world.proofs.Links.{Fair, link_more, link_count}
@@ -37,7 +37,7 @@ use Rattle.world.proofs.Given.{given_in, given_out, given_host, test, one_moved,
 
 module _ {H : List Address} {S : States} {E : List Executed} {M C : Moves} (K : Core H S E M C) (d : different H ≡ true) (x : Address)
     (isHost : among x H ≡ true) (l : Letter) (there : (S x).room ≡ some l) (strange : among l.from H ≡ false) (lo hi : Bound) (a : Address)
-    (recipient : among a H ≡ true) (other : a ≡ x → ⊥) (t : ℕ) (all_mine : (k : ℕ) → holds lo hi k ≡ true → ownerOf (S x).owners k ≡ x)
+    (recipient : among a H ≡ true) (other : a ≡ x → ⊥) (t : ℕ) (all_mine : (k : ℕ) → holds lo hi k ≡ true → owner_of (S x).owners k ≡ x)
     (F : Fair (delegate lo hi (in_range lo hi (S x).records))) (small : next (S x) a < numbers)
     (valid : Valid (message (next (S x) a) a (delegate lo hi (in_range lo hi (S x).records)))) where
   abbrev transfer : Body
@@ -61,8 +61,8 @@ module _ {H : List Address} {S : States} {E : List Executed} {M C : Moves} (K : 
       (all_kept Kept (λ j. not (holds lo hi j)) (S x).records (K.local x isHost).kept))
       refl a transfer small valid ((K.local x isHost).hosts_known a recipient) tt
 
-  room_same : (p q : Address) → among p H ≡ true → inRoom p (U q).room ≡ inRoom p (S q).room
-  room_same p q e = keep x f S (λ y. inRoom p y.room) q (λ w. sym (no_way H S x l there strange p e) ∙ ap (λ (z : Address). inRoom p (S z).room) (sym w))
+  room_same : (p q : Address) → among p H ≡ true → in_room p (U q).room ≡ in_room p (S q).room
+  room_same p q e = keep x f S (λ y. in_room p y.room) q (λ w. sym (no_way H S x l there strange p e) ∙ ap (λ (z : Address). in_room p (S z).room) (sym w))
 
   received_same : (p q : Address) → (U q).received p ≡ (S q).received p
   received_same p q = keep x f S (λ y. y.received p) q (λ w. ap (λ (z : Address). (S z).received p) (sym w))
@@ -96,8 +96,8 @@ module _ {H : List Address} {S : States} {E : List Executed} {M C : Moves} (K : 
       let L = K.link x a isHost recipient in
       let n : (S a).received x - (S x).acknowledged a ≤ length ((S x).waiting a) = omega (arith, link_count L, L.known, L.order) in
       way_as waiting_more (acknowledged_same x a) (received_same x a) (room_same x a isHost)
-      ∙ ap (λ (z : List Body). inRoom x (S a).room ++ z) (drop_append ((S a).received x - (S x).acknowledged a) ((S x).waiting a) (transfer ∷ []) n)
-      ∙ sym (append_assoc (inRoom x (S a).room) (drop ((S a).received x - (S x).acknowledged a) ((S x).waiting a)) (transfer ∷ []))
+      ∙ ap (λ (z : List Body). in_room x (S a).room ++ z) (drop_append ((S a).received x - (S x).acknowledged a) ((S x).waiting a) (transfer ∷ []) n)
+      ∙ sym (append_assoc (in_room x (S a).room) (drop ((S a).received x - (S x).acknowledged a) ((S x).waiting a)) (transfer ∷ []))
 
   owner_before : (k : ℕ) → holds lo hi k ≡ true → mine (S x) x k ≡ true
   owner_before k e = ap (λ (z : Address). same z x) (all_mine k e) ∙ same_refl x
@@ -141,7 +141,7 @@ module _ {H : List Address} {S : States} {E : List Executed} {M C : Moves} (K : 
 
   says_right : (k : ℕ) → holds lo hi k ≡ true → look k (in_range lo hi (S x).records) ≡ table_of E k
   says_right k e =
-      look_inRange lo hi k (S x).records ∙ ap (λ (u : Bool). cond u (look k (S x).records) none) e ∙ K.right k x isHost (owner_before k e)
+      look_in_range lo hi k (S x).records ∙ ap (λ (u : Bool). cond u (look k (S x).records) none) e ∙ K.right k x isHost (owner_before k e)
 
   clean_after : (k : ℕ) → mine f x k ≡ false → look k (outside lo hi (S x).records) ≡ none
   clean_after k m =

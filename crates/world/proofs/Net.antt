@@ -7,7 +7,7 @@ use mathlib.Core.Option.{none, some, some-injective}
 use Prim.Native.Nat.{ℕ, ◌≤◌, ◌<◌}
 use native.Mathlib.Omega.{arith}
 use lib.ListN.{length, take}
-use Rattle.limits.specs.Limits.{bytesMax}
+use Rattle.limits.specs.Limits.{bytes_max}
 use Rattle.message.specs.Message.{Address, Body, Datagram, message, ack}
 use Rattle.message.specs.Table.{written, Valid}
 use Rattle.decoding.specs.Decode.{read}
@@ -16,7 +16,7 @@ use Rattle.protocol.specs.Address.{among, at}
 use Rattle.protocol.specs.State.{short}
 use Rattle.protocol.specs.Delivery.{Packet, Outcome, Step}
 use Rattle.world.specs.World.{Sent, Executed, World}
-use Rattle.world.specs.Events.{nth, Trace, passes, traceOf, movedBy, moved, madeAfter, carriedAfter, executedAfter, sentBy, after}
+use Rattle.world.specs.Events.{nth, Trace, passes, trace_of, moved_by, moved, made_after, carried_after, executed_after, sent_by, after}
 use Rattle.world.proofs.Lists.{All, all_append, all_map, all_take, nth_append}
 use Rattle.world.proofs.Invariant.{States, Moves, Told, Core, Speaks, Spoken, Always}
 use Rattle.world.proofs.Changes.{at_same_state}
@@ -56,23 +56,23 @@ module _ {H : List Address} {S : States} {E : List Executed} {M : Moves} {S' : S
 
 -- ---- a step that is fine
 
-abbrev pub packetOf : Address → Packet → Sent
-packetOf x p = record { from = x; to = p.to; bytes = p.bytes }
+abbrev pub packet_of : Address → Packet → Sent
+packet_of x p = record { from = x; to = p.to; bytes = p.bytes }
 
 -- the world has changed to these parts, and these datagrams are handed out: the core goes on, all that was said stays true, and so is what is
 -- said now
 pub record Goes (H : List Address) (W : World) (x : Address) (S : States) (E : List Executed) (M C : Moves) (sends : List Packet) : Type 0 where
   pub core : Core H S E M C
   pub grows : Grows H W.state W.executed W.made S E M
-  pub spoken : All (λ p. Spoken H S E M (packetOf x p)) sends
+  pub spoken : All (λ p. Spoken H S E M (packet_of x p)) sends
 
 -- .. by the step s of the host x
 abbrev pub Fine : (H : List Address) → World → Address → Step → Type 0
 Fine H W x s =
-    Goes H W x (at x s.state W.state) (executedAfter x (W.state x) s.executed W.executed)
-    (madeAfter x (moved (W.state x) s.outcome) W.made) (carriedAfter x (moved (W.state x) s.outcome) W.carried) s.sends
+    Goes H W x (at x s.state W.state) (executed_after x (W.state x) s.executed W.executed)
+    (made_after x (moved (W.state x) s.outcome) W.made) (carried_after x (moved (W.state x) s.outcome) W.carried) s.sends
 
-all_sent : (P : Sent → Type 0) (x : Address) (l : List Packet) → All (λ p. P (packetOf x p)) l → All P (sentBy x l)
+all_sent : (P : Sent → Type 0) (x : Address) (l : List Packet) → All (λ p. P (packet_of x p)) l → All P (sent_by x l)
 all_sent P x [] A = tt
 all_sent P x (p ∷ l) A = (A.0, all_sent P x l A.1)
 
@@ -80,22 +80,22 @@ pub always_after : {H : List Address} {W : World} (x : Address) (n : ℕ) (s : S
 always_after {H} {W} x n s A F = record {
   hosts_are = A.hosts_are;
   core = F.core;
-  net = all_append (Spoken H (after W x n s).state (after W x n s).executed (after W x n s).made) W.sent (sentBy x (take n s.sends))
+  net = all_append (Spoken H (after W x n s).state (after W x n s).executed (after W x n s).made) W.sent (sent_by x (take n s.sends))
       (all_map (Spoken H W.state W.executed W.made) (Spoken H (after W x n s).state (after W x n s).executed (after W x n s).made)
       (spoken_still F.grows) W.sent A.net)
       (all_sent (Spoken H (after W x n s).state (after W x n s).executed (after W x n s).made) x (take n s.sends)
-      (all_take (λ p. Spoken H (after W x n s).state (after W x n s).executed (after W x n s).made (packetOf x p)) n s.sends F.spoken));
+      (all_take (λ p. Spoken H (after W x n s).state (after W x n s).executed (after W x n s).made (packet_of x p)) n s.sends F.spoken));
 }
 
 -- a step that leaves the host as it is, and tells the truth
-pub fine_same : {H : List Address} {W : World} → Always H W → (x : Address) (sends : List Packet) (o : Outcome) → traceOf o ≡ passes
-    → All (λ p. Spoken H W.state W.executed W.made (packetOf x p)) sends
+pub fine_same : {H : List Address} {W : World} → Always H W → (x : Address) (sends : List Packet) (o : Outcome) → trace_of o ≡ passes
+    → All (λ p. Spoken H W.state W.executed W.made (packet_of x p)) sends
     → Fine H W x (record { state = W.state x; sends = sends; outcome = o; executed = none })
 fine_same {H} {W} A x sends o t P =
     subst
     (λ (k : Trace).
-    Goes H W x (at x (W.state x) W.state) W.executed (madeAfter x (movedBy k (W.state x) (W.state x).room) W.made)
-    (carriedAfter x (movedBy k (W.state x) (W.state x).room) W.carried) sends)
+    Goes H W x (at x (W.state x) W.state) W.executed (made_after x (moved_by k (W.state x) (W.state x).room) W.made)
+    (carried_after x (moved_by k (W.state x) (W.state x).room) W.carried) sends)
     (sym t)
     (subst (λ (T : States). Goes H W x T W.executed W.made W.carried sends) (sym (at_same_state x W.state))
     (record { core = A.core; grows = grows_not H W.state W.executed W.made; spoken = P }))
@@ -104,7 +104,7 @@ fine_same {H} {W} A x sends o t P =
 
 -- it comes from a stranger, or is what a host has handed out
 pub record From (H : List Address) (S : States) (E : List Executed) (M : Moves) (x a : Address) (s : List ℕ) : Type 0 where
-  pub short : length a < bytesMax
+  pub short : length a < bytes_max
   pub host : among a H ≡ true → Spoken H S E M (record { from = a; to = x; bytes = s })
 
 -- the message that it is may be written, and is true if a host has sent it

@@ -10,7 +10,7 @@ use native.Mathlib.Omega.{arith}
 use lib.ListN.{length}
 use lib.Dec.{eqb, ltb, leb}
 use borrow.Author.Tests.{not-false, ne_eqb, eqb-true, ltb-true, ltb-false}
-use Rattle.limits.specs.Limits.{valueMax, entriesLimit, bytesMax, transfersLimit}
+use Rattle.limits.specs.Limits.{value_max, entries_limit, bytes_max, transfers_limit}
 use Rattle.keys.specs.declared.Bound.{Bound}
 use Rattle.keys.specs.Bound.{below, holds}
 use Rattle.format.specs.Number.{numbers}
@@ -21,15 +21,15 @@ use Rattle.decoding.specs.Decode.{same}
 use Rattle.decoding.proofs.Decided.{same_refl}
 use Rattle.protocol.specs.Address.{among, at}
 use Rattle.protocol.specs.Records.{Value, look, setting, in_range, outside, replacing}
-use Rattle.protocol.specs.Owners.{ownerOf, giving, whole}
+use Rattle.protocol.specs.Owners.{owner_of, giving, whole}
 use Rattle.protocol.specs.State.{Host, Letter, done, different, short}
 use Rattle.protocol.specs.Delivery.{Packet, Outcome, Request, Act, got, stored, still, next, posted, packet, numbered, idle, stuck, replied, redirected, dropped, unnumbered, accepted, handed}
-use Rattle.protocol.specs.Process.{free, answering, onGet, long, keeping, onSet, anyLong, unfit, onDelegate, refused, handing, onShard, onBody, onLetter, process}
+use Rattle.protocol.specs.Process.{free, answering, on_get, long, keeping, on_set, any_long, unfit, on_delegate, refused, handing, on_shard, on_body, on_letter, process}
 use Rattle.protocol.proofs.Addresses.{or_right, neither, short_among}
 use Rattle.protocol.proofs.Entries.{look_setting, above_setting}
 use Rattle.protocol.proofs.Whole.{whole_all}
 use Rattle.world.specs.World.{Executed, World}
-use Rattle.world.specs.Events.{Trace, gives, takes, passes, traceOf, Moved, made, carried, movedBy, moved, asked, noted, nth, madeAfter, carriedAfter, executedAfter}
+use Rattle.world.specs.Events.{Trace, gives, takes, passes, trace_of, Moved, made, carried, moved_by, moved, asked, noted, nth, made_after, carried_after, executed_after}
 use Rattle.world.specs.Claims.{mine}
 use Rattle.world.specs.Single.{acted, table_of, Right, answer}
 use Rattle.world.proofs.Lists.{All, nth_last}
@@ -52,25 +52,25 @@ none_of s t e f = rw e f
 
 -- ---- what may be written
 
-good_address : (a : Address) → length a < bytesMax → Good address a
+good_address : (a : Address) → length a < bytes_max → Good address a
 good_address a s = (s, omega (arith, s))
 
-good_value : (v : Option Value) → ((w : Value) → v ≡ some w → length w ≤ valueMax) → Good (maybe value) v
+good_value : (v : Option Value) → ((w : Value) → v ≡ some w → length w ≤ value_max) → Good (maybe value) v
 good_value none f = tt
 good_value (some w) f = let u = f w refl in (omega (arith, u), omega (arith, u))
 
-valid_reply : (n : ℕ) (c : Address) (k : ℕ) (v : Option Value) → n < numbers → length c < bytesMax → k < numbers
-    → ((w : Value) → v ≡ some w → length w ≤ valueMax) → Valid (message n c (reply k v))
+valid_reply : (n : ℕ) (c : Address) (k : ℕ) (v : Option Value) → n < numbers → length c < bytes_max → k < numbers
+    → ((w : Value) → v ≡ some w → length w ≤ value_max) → Valid (message n c (reply k v))
 valid_reply n c k v p q r f = (omega arith, (p, (good_address c q, (omega arith, (r, good_value v f)))))
 
-valid_redirect : (n : ℕ) (c : Address) (k : ℕ) (a : Address) → n < numbers → length c < bytesMax → k < numbers → length a < bytesMax
+valid_redirect : (n : ℕ) (c : Address) (k : ℕ) (a : Address) → n < numbers → length c < bytes_max → k < numbers → length a < bytes_max
     → Valid (message n c (redirect k a))
 valid_redirect n c k a p q r s = (omega arith, (p, (good_address c q, (omega arith, (r, good_address a s)))))
 
-short_value : (v : Option Value) → long v ≡ false → (w : Value) → v ≡ some w → length w ≤ valueMax
+short_value : (v : Option Value) → long v ≡ false → (w : Value) → v ≡ some w → length w ≤ value_max
 short_value none e w q = absurd (none-ne-some w q)
 short_value (some v) e w q =
-    let u : length v ≡ length w = ap length (some-injective v w q) in omega (arith, u, ltb-false valueMax (length v) e)
+    let u : length v ≡ length w = ap length (some-injective v w q) in omega (arith, u, ltb-false value_max (length v) e)
 
 -- ---- one host processes
 
@@ -97,14 +97,14 @@ module _ {H : List Address} {W : World} (A : Always H W) (d : different H ≡ tr
   nothing_made a b = ([], sym (append-nil (W.made a b)))
 
   -- an outcome that is no transfer's
-  passing : (g : Host) (sends : List Packet) (o : Outcome) (r : Option Request) → traceOf o ≡ passes
-      → Goes H W x (at x g W.state) (executedAfter x (W.state x) r W.executed) W.made W.carried sends
+  passing : (g : Host) (sends : List Packet) (o : Outcome) (r : Option Request) → trace_of o ≡ passes
+      → Goes H W x (at x g W.state) (executed_after x (W.state x) r W.executed) W.made W.carried sends
       → Fine H W x (record { state = g; sends = sends; outcome = o; executed = r })
   passing g sends o r t G =
       subst
       (λ (k : Trace).
-      Goes H W x (at x g W.state) (executedAfter x (W.state x) r W.executed) (madeAfter x (movedBy k (W.state x) (W.state x).room) W.made)
-      (carriedAfter x (movedBy k (W.state x) (W.state x).room) W.carried) sends)
+      Goes H W x (at x g W.state) (executed_after x (W.state x) r W.executed) (made_after x (moved_by k (W.state x) (W.state x).room) W.made)
+      (carried_after x (moved_by k (W.state x) (W.state x).room) W.carried) sends)
       (sym t) G
 
   module _ (l : Letter) (there : (W.state x).room ≡ some l) where
@@ -114,7 +114,7 @@ module _ {H : List Address} {W : World} (A : Always H W) (d : different H ≡ tr
     -- ---- what comes from a stranger
 
     module _ (strange : among l.from H ≡ false) where
-      fine_dropped : (t : ℕ) (o : Outcome) → traceOf o ≡ passes → Fine H W x (still (done (W.state x).owners (W.state x).records t (W.state x)) o)
+      fine_dropped : (t : ℕ) (o : Outcome) → trace_of o ≡ passes → Fine H W x (still (done (W.state x).owners (W.state x).records t (W.state x)) o)
       fine_dropped t o p =
           passing (done (W.state x).owners (W.state x).records t (W.state x)) [] o none p (record {
             core = core_dropped A.core x isHost l there strange t;
@@ -127,17 +127,17 @@ module _ {H : List Address} {W : World} (A : Always H W) (d : different H ≡ tr
 
       -- the sender is told whose the key is
       fine_redirected : (k : ℕ) → k < numbers → (can : Bool) → numbered (W.state x) l.from ≡ can
-          → Fine H W x (answering can (free (W.state x)) l.from (redirect k (ownerOf (W.state x).owners k)) redirected none)
+          → Fine H W x (answering can (free (W.state x)) l.from (redirect k (owner_of (W.state x).owners k)) redirected none)
       fine_redirected k small true e =
           let n : next (W.state x) l.from < numbers = ltb-true (next (W.state x) l.from) numbers e in
-          let v = valid_redirect (next (W.state x) l.from) l.from k (ownerOf (W.state x).owners k) n R.short small
-          (short_among H s (ownerOf (W.state x).owners k) (L.owner_in k)) in record {
-            core = core_told A.core x isHost l there strange (W.state x).transfers l.from strange (redirect k (ownerOf (W.state x).owners k)) n v R.known (L.owner_in k);
-            grows = grows_by (posted l.from (redirect k (ownerOf (W.state x).owners k)) (free (W.state x))) (λ c. refl) W.executed W.made (λ y c n b T. T)
+          let v = valid_redirect (next (W.state x) l.from) l.from k (owner_of (W.state x).owners k) n R.short small
+          (short_among H s (owner_of (W.state x).owners k) (L.owner_in k)) in record {
+            core = core_told A.core x isHost l there strange (W.state x).transfers l.from strange (redirect k (owner_of (W.state x).owners k)) n v R.known (L.owner_in k);
+            grows = grows_by (posted l.from (redirect k (owner_of (W.state x).owners k)) (free (W.state x))) (λ c. refl) W.executed W.made (λ y c n b T. T)
                 nothing_made;
             spoken = (
               record {
-                datagram = message (next (W.state x) l.from) l.from (redirect k (ownerOf (W.state x).owners k));
+                datagram = message (next (W.state x) l.from) l.from (redirect k (owner_of (W.state x).owners k));
                 valid = v;
                 bytes = refl;
                 from = isHost;
@@ -150,7 +150,7 @@ module _ {H : List Address} {W : World} (A : Always H W) (d : different H ≡ tr
 
       -- a request is carried out
       fine_answered : (act : Act) (k : ℕ) (v : Option Value) → answer act ≡ reply k v → (es : List Entry) → Above 0 es → All Kept es → k < numbers
-          → ((w : Value) → v ≡ some w → length w ≤ valueMax) → Right act (table_of W.executed)
+          → ((w : Value) → v ≡ some w → length w ≤ value_max) → Right act (table_of W.executed)
           → ((j : ℕ) → mine (W.state x) x j ≡ true → look j es ≡ acted act (table_of W.executed) j)
           → ((j : ℕ) → (acted act (table_of W.executed) j ≡ table_of W.executed j) ⊎ (mine (W.state x) x j ≡ true))
           → ((j : ℕ) → mine (W.state x) x j ≡ false → look j es ≡ none)
@@ -186,10 +186,10 @@ module _ {H : List Address} {W : World} (A : Always H W) (d : different H ≡ tr
       me_is = L.me_is
 
       -- the key is the host's own
-      own_key : (k : ℕ) → same (ownerOf (W.state x).owners k) (W.state x).me ≡ true → mine (W.state x) x k ≡ true
-      own_key k e = subst (λ (z : Address). same (ownerOf (W.state x).owners k) z ≡ true) me_is e
+      own_key : (k : ℕ) → same (owner_of (W.state x).owners k) (W.state x).me ≡ true → mine (W.state x) x k ≡ true
+      own_key k e = subst (λ (z : Address). same (owner_of (W.state x).owners k) z ≡ true) me_is e
 
-      fine_get : (k : ℕ) → k < numbers → (own : Bool) → same (ownerOf (W.state x).owners k) (W.state x).me ≡ own → Fine H W x (onGet own (W.state x) l k)
+      fine_get : (k : ℕ) → k < numbers → (own : Bool) → same (owner_of (W.state x).owners k) (W.state x).me ≡ own → Fine H W x (on_get own (W.state x) l k)
       fine_get k small true e = go (numbered (W.state x) l.from) refl
         where
           go : (can : Bool) → numbered (W.state x) l.from ≡ can
@@ -225,7 +225,7 @@ module _ {H : List Address} {W : World} (A : Always H W) (d : different H ≡ tr
       fine_keeping k v small e m false fits n = fine_dropped (W.state x).transfers unnumbered refl
 
       fine_set : (k : ℕ) (v : Option Value) → k < numbers → (tooLong own fits : Bool) → long v ≡ tooLong
-          → same (ownerOf (W.state x).owners k) (W.state x).me ≡ own → Fine H W x (onSet tooLong own fits (W.state x) l k v)
+          → same (owner_of (W.state x).owners k) (W.state x).me ≡ own → Fine H W x (on_set tooLong own fits (W.state x) l k v)
       fine_set k v small true own fits e q = fine_dropped (W.state x).transfers dropped refl
       fine_set k v small false true fits e q = fine_keeping k v small e (own_key k q) (numbered (W.state x) l.from) fits refl
       fine_set k v small false false fits e q = fine_redirected k small (numbered (W.state x) l.from) refl
@@ -234,13 +234,13 @@ module _ {H : List Address} {W : World} (A : Always H W) (d : different H ≡ tr
       no_host : (lo hi : Bound) (es : List Entry) → unfit (W.state x) l lo hi es ≡ true
       no_host lo hi es =
           or_right (not (below lo hi)) _
-          (or_right (leb entriesLimit (length es)) _
-          (or_right (anyLong es) (not (among l.from (W.state x).hosts))
+          (or_right (leb entries_limit (length es)) _
+          (or_right (any_long es) (not (among l.from (W.state x).hosts))
           (ap (λ (z : List Address). not (among l.from z)) L.hosts_are ∙ ap not strange)))
 
-      fine_delegate : (lo hi : Bound) (es : List Entry) → Fine H W x (onDelegate (unfit (W.state x) l lo hi es) (W.state x) l lo hi es)
+      fine_delegate : (lo hi : Bound) (es : List Entry) → Fine H W x (on_delegate (unfit (W.state x) l lo hi es) (W.state x) l lo hi es)
       fine_delegate lo hi es =
-          subst (λ (t : Bool). Fine H W x (onDelegate t (W.state x) l lo hi es)) (sym (no_host lo hi es)) (fine_dropped (W.state x).transfers dropped refl)
+          subst (λ (t : Bool). Fine H W x (on_delegate t (W.state x) l lo hi es)) (sym (no_host lo hi es)) (fine_dropped (W.state x).transfers dropped refl)
 
       -- a range is handed over
       fine_handing : (lo hi : Bound) (a : Address) → l.body ≡ shard lo hi a → refused (W.state x) lo hi a ≡ false → (can : Bool)
@@ -248,8 +248,8 @@ module _ {H : List Address} {W : World} (A : Always H W) (d : different H ≡ tr
       fine_handing lo hi a is e true n =
           let b : Body = delegate lo hi (in_range lo hi (W.state x).records) in
           let g : Host = posted a b (done (giving lo hi a (W.state x).owners) (outside lo hi (W.state x).records) (suc (W.state x).transfers) (W.state x)) in
-          let m : moved (W.state x) handed ≡ made a b = ap (movedBy gives (W.state x)) there ∙ ap (asked (W.state x)) is in
-          subst (λ (z : Moved). Goes H W x (at x g W.state) W.executed (madeAfter x z W.made) (carriedAfter x z W.carried) (packet (next (W.state x) a) a b ∷ [])) (sym m)
+          let m : moved (W.state x) handed ≡ made a b = ap (moved_by gives (W.state x)) there ∙ ap (asked (W.state x)) is in
+          subst (λ (z : Moved). Goes H W x (at x g W.state) W.executed (made_after x z W.made) (carried_after x z W.carried) (packet (next (W.state x) a) a b ∷ [])) (sym m)
           (record {
             core = core_made A.core d x isHost l there strange lo hi a recipient other (suc (W.state x).transfers) all_mine fair small good;
             grows = grows_by g (λ c. refl) W.executed (noted x a b W.made) (λ y c n b T. T) more;
@@ -265,16 +265,16 @@ module _ {H : List Address} {W : World} (A : Always H W) (d : different H ≡ tr
             );
           })
         where
-          first : (same a (W.state x).me ≡ false) × ((not (among a (W.state x).hosts) || (not (below lo hi) || (not (whole lo hi (W.state x).me (W.state x).owners) || leb entriesLimit (length (in_range lo hi (W.state x).records))))) ≡ false)
+          first : (same a (W.state x).me ≡ false) × ((not (among a (W.state x).hosts) || (not (below lo hi) || (not (whole lo hi (W.state x).me (W.state x).owners) || leb entries_limit (length (in_range lo hi (W.state x).records))))) ≡ false)
           first = neither _ _ e
 
-          second : (not (among a (W.state x).hosts) ≡ false) × ((not (below lo hi) || (not (whole lo hi (W.state x).me (W.state x).owners) || leb entriesLimit (length (in_range lo hi (W.state x).records)))) ≡ false)
+          second : (not (among a (W.state x).hosts) ≡ false) × ((not (below lo hi) || (not (whole lo hi (W.state x).me (W.state x).owners) || leb entries_limit (length (in_range lo hi (W.state x).records)))) ≡ false)
           second = neither _ _ first.1
 
-          third : (not (below lo hi) ≡ false) × ((not (whole lo hi (W.state x).me (W.state x).owners) || leb entriesLimit (length (in_range lo hi (W.state x).records))) ≡ false)
+          third : (not (below lo hi) ≡ false) × ((not (whole lo hi (W.state x).me (W.state x).owners) || leb entries_limit (length (in_range lo hi (W.state x).records))) ≡ false)
           third = neither _ _ second.1
 
-          fourth : (not (whole lo hi (W.state x).me (W.state x).owners) ≡ false) × (leb entriesLimit (length (in_range lo hi (W.state x).records)) ≡ false)
+          fourth : (not (whole lo hi (W.state x).me (W.state x).owners) ≡ false) × (leb entries_limit (length (in_range lo hi (W.state x).records)) ≡ false)
           fourth = neither _ _ third.1
 
           recipient : among a H ≡ true
@@ -283,7 +283,7 @@ module _ {H : List Address} {W : World} (A : Always H W) (d : different H ≡ tr
           other : a ≡ x → ⊥
           other q = false≢true (sym first.0 ∙ ap (same a) me_is ∙ ap (λ (z : Address). same z x) q ∙ same_refl x)
 
-          all_mine : (k : ℕ) → holds lo hi k ≡ true → ownerOf (W.state x).owners k ≡ x
+          all_mine : (k : ℕ) → holds lo hi k ≡ true → owner_of (W.state x).owners k ≡ x
           all_mine k q = whole_all lo hi (W.state x).me (W.state x).owners (not-false _ fourth.0) k q ∙ me_is
 
           bounds : Valid (message l.number x (shard lo hi a))
@@ -312,14 +312,14 @@ module _ {H : List Address} {W : World} (A : Always H W) (d : different H ≡ tr
       fine_handing lo hi a is e false n = fine_dropped (suc (W.state x).transfers) unnumbered refl
 
       fine_shard : (lo hi : Bound) (a : Address) → l.body ≡ shard lo hi a → (no : Bool) → refused (W.state x) lo hi a ≡ no
-          → Fine H W x (onShard no (W.state x) lo hi a)
+          → Fine H W x (on_shard no (W.state x) lo hi a)
       fine_shard lo hi a is true e = fine_dropped (W.state x).transfers dropped refl
       fine_shard lo hi a is false e = fine_handing lo hi a is e (numbered (W.state x) a) refl
 
-      fine_stranger : (few fits : Bool) (b : Body) → l.body ≡ b → Valid (message l.number x b) → Fine H W x (onBody few fits (W.state x) l b)
-      fine_stranger few fits (get k) e v = fine_get k v.1.1.1.1 (same (ownerOf (W.state x).owners k) (W.state x).me) refl
+      fine_stranger : (few fits : Bool) (b : Body) → l.body ≡ b → Valid (message l.number x b) → Fine H W x (on_body few fits (W.state x) l b)
+      fine_stranger few fits (get k) e v = fine_get k v.1.1.1.1 (same (owner_of (W.state x).owners k) (W.state x).me) refl
       fine_stranger few fits (set k u) e v =
-          fine_set k u v.1.1.1.1.0 (long u) (same (ownerOf (W.state x).owners k) (W.state x).me) fits refl refl
+          fine_set k u v.1.1.1.1.0 (long u) (same (owner_of (W.state x).owners k) (W.state x).me) fits refl refl
       fine_stranger true fits (delegate lo hi es) e v = fine_delegate lo hi es
       fine_stranger false fits (delegate lo hi es) e v = fine_same A x [] stuck refl tt
       fine_stranger true fits (shard lo hi a) e v = fine_shard lo hi a e (refused (W.state x) lo hi a) refl
@@ -338,11 +338,11 @@ module _ {H : List Address} {W : World} (A : Always H W) (d : different H ≡ tr
           none_of _ _ (ap not F.range)
           (none_of _ _ F.few (none_of _ _ F.short (ap (λ (z : List Address). not (among l.from z)) L.hosts_are ∙ ap not sender)))
 
-      fine_accepted : Fine H W x (onDelegate false (W.state x) l F.lo F.hi F.entries)
+      fine_accepted : Fine H W x (on_delegate false (W.state x) l F.lo F.hi F.entries)
       fine_accepted =
           let g : Host = done (giving F.lo F.hi (W.state x).me (W.state x).owners) (replacing F.lo F.hi F.entries (W.state x).records) (suc (W.state x).transfers) (W.state x) in
-          let m : moved (W.state x) accepted ≡ carried l.from l.body = ap (movedBy takes (W.state x)) there in
-          subst (λ (z : Moved). Goes H W x (at x g W.state) W.executed (madeAfter x z W.made) (carriedAfter x z W.carried) []) (sym m)
+          let m : moved (W.state x) accepted ≡ carried l.from l.body = ap (moved_by takes (W.state x)) there in
+          subst (λ (z : Moved). Goes H W x (at x g W.state) W.executed (made_after x z W.made) (carried_after x z W.carried) []) (sym m)
           (record {
             core = core_carried A.core d x isHost l there sender F.lo F.hi F.entries (suc (W.state x).transfers) F.is F.inside
                 F.good.1.1.2 (fair_kept l.body F);
@@ -350,17 +350,17 @@ module _ {H : List Address} {W : World} (A : Always H W) (d : different H ≡ tr
             spoken = tt;
           })
 
-      fine_host : (few fits : Bool) → Fine H W x (onBody few fits (W.state x) l (delegate F.lo F.hi F.entries))
-      fine_host true fits = subst (λ (t : Bool). Fine H W x (onDelegate t (W.state x) l F.lo F.hi F.entries)) (sym fit) fine_accepted
+      fine_host : (few fits : Bool) → Fine H W x (on_body few fits (W.state x) l (delegate F.lo F.hi F.entries))
+      fine_host true fits = subst (λ (t : Bool). Fine H W x (on_delegate t (W.state x) l F.lo F.hi F.entries)) (sym fit) fine_accepted
       fine_host false fits = fine_same A x [] stuck refl tt
 
-    fine_body : (few fits : Bool) (known : Bool) → among l.from H ≡ known → Fine H W x (onBody few fits (W.state x) l l.body)
-    fine_body few fits true e = subst (λ (b : Body). Fine H W x (onBody few fits (W.state x) l b)) (sym (F e).is) (fine_host e few fits)
+    fine_body : (few fits : Bool) (known : Bool) → among l.from H ≡ known → Fine H W x (on_body few fits (W.state x) l l.body)
+    fine_body few fits true e = subst (λ (b : Body). Fine H W x (on_body few fits (W.state x) l b)) (sym (F e).is) (fine_host e few fits)
     fine_body few fits false e = fine_stranger e few fits l.body refl R.valid
 
-  fine_letter : (fits : Bool) (r : Option Letter) → (W.state x).room ≡ r → Fine H W x (onLetter fits (W.state x) r)
+  fine_letter : (fits : Bool) (r : Option Letter) → (W.state x).room ≡ r → Fine H W x (on_letter fits (W.state x) r)
   fine_letter fits none e = fine_same A x [] idle refl tt
-  fine_letter fits (some l) e = fine_body l e (ltb (W.state x).transfers (transfersLimit - 2)) fits (among l.from H) refl
+  fine_letter fits (some l) e = fine_body l e (ltb (W.state x).transfers (transfers_limit - 2)) fits (among l.from H) refl
 
   pub fine_process : (fits : Bool) → Fine H W x (process fits (W.state x))
   fine_process fits = fine_letter fits (W.state x).room refl

@@ -7,7 +7,7 @@ use mathlib.Core.Option.{none, some}
 use Prim.Native.Nat.{ℕ, suc, ◌-◌, ◌≤◌, ◌<◌}
 use native.Mathlib.Omega.{arith}
 use lib.ListN.{length, drop}
-use Rattle.limits.specs.Limits.{bytesMax}
+use Rattle.limits.specs.Limits.{bytes_max}
 use Rattle.format.specs.Number.{numbers}
 use Rattle.message.specs.Message.{Address, Body, message}
 use Rattle.message.specs.Table.{Valid}
@@ -15,13 +15,13 @@ use Rattle.decoding.specs.Decode.{same}
 use Rattle.decoding.proofs.Decided.{same_refl}
 use Rattle.protocol.specs.Address.{among, at}
 use Rattle.protocol.specs.Records.{look}
-use Rattle.protocol.specs.Owners.{Owners, ownerOf}
+use Rattle.protocol.specs.Owners.{Owners, owner_of}
 use Rattle.protocol.specs.State.{Host, Letter, took, done}
 use Rattle.protocol.specs.Delivery.{next, posted, confirmed}
 use Rattle.protocol.proofs.Addresses.{same_false, at_other, at_same}
 use Rattle.world.specs.World.{Executed}
 use Rattle.world.specs.Events.{nth}
-use Rattle.world.specs.Claims.{mine, inRoom, moves, says}
+use Rattle.world.specs.Claims.{mine, in_room, moves, says}
 use Rattle.world.specs.Single.{table_of}
 use Rattle.world.proofs.Lists.{All}
 use Rattle.world.proofs.Sums.{among_not}
@@ -40,7 +40,7 @@ module _ {H : List Address} {S : States} {E : List Executed} {M C : Moves} (K : 
   -- a host keeps its map
   pub maps_kept : g.owners ≡ (S x).owners → (k : ℕ) (y : Address) → mine (at x g S y) y k ≡ mine (S y) y k
   maps_kept o k y =
-      keep x g S (λ f. mine f y k) y (λ q. ap (λ (w : Owners). same (ownerOf w k) y) (o ∙ ap (λ (z : Address). (S z).owners) (sym q)))
+      keep x g S (λ f. mine f y k) y (λ q. ap (λ (w : Owners). same (owner_of w k) y) (o ∙ ap (λ (z : Address). (S z).owners) (sym q)))
 
   pub records_kept : g.records ≡ (S x).records → (y : Address) → (at x g S y).records ≡ (S y).records
   records_kept r y = keep x g S (λ f. f.records) y (λ q. r ∙ ap (λ (z : Address). (S z).records) (sym q))
@@ -70,7 +70,7 @@ stays N K = (cell_link N K, cell_way N)
 
 module _ {H : List Address} {S : States} {E : List Executed} {M C : Moves} (K : Core H S E M C) (x : Address) (isHost : among x H ≡ true)
     (free : (S x).room ≡ none) (a : Address) (n : ℕ) (b : Body) (peers : List Address) (new : n ≡ suc ((S x).received a))
-    (valid : Valid (message n x b)) (short : length a < bytesMax) (sent : among a H ≡ true → nth ((S x).received a) (M a x) ≡ some b)
+    (valid : Valid (message n x b)) (short : length a < bytes_max) (sent : among a H ≡ true → nth ((S x).received a) (M a x) ≡ some b)
     (All-stay : (c : Address) → among c (S x).peers ≡ true → among c peers ≡ true) (joins : among a peers ≡ true) where
   abbrev g : Host
   g = took a n b peers (at a n (S x).received) (S x)
@@ -83,16 +83,16 @@ module _ {H : List Address} {S : States} {E : List Executed} {M C : Moves} (K : 
     acknowledged = keep x g S (λ f. f.acknowledged q) p (λ e. ap (λ (z : Address). (S z).acknowledged q) (sym e));
     received = keep x g S (λ f. f.received p) q
         (λ e. at_other a n (S x).received p (λ w. d w e) ∙ ap (λ (z : Address). (S z).received p) (sym e));
-    room = keep x g S (λ f. inRoom p f.room) q
+    room = keep x g S (λ f. in_room p f.room) q
         (λ e.
         let u : same a p ≡ false = same_false a p (λ w. d (sym w) e) in
-        let v : inRoom p (S q).room ≡ [] = ap (inRoom p) (ap (λ (z : Address). (S z).room) e ∙ free) in
+        let v : in_room p (S q).room ≡ [] = ap (in_room p) (ap (λ (z : Address). (S z).room) e ∙ free) in
         rw u (sym v));
   }
 
   here : among a H ≡ true → LinkOf (at x g S) M C a x × (way (at x g S) a x ≡ way S a x)
   here e =
-      let empty : inRoom a (S x).room ≡ [] = ap (inRoom a) free in
+      let empty : in_room a (S x).room ≡ [] = ap (in_room a) free in
       let L : Link (M a x) (C a x) ((S a).waiting x) ((S a).acknowledged x) ((S x).received a) [] =
       subst (λ (l : List Body). Link (M a x) (C a x) ((S a).waiting x) ((S a).acknowledged x) ((S x).received a) l) empty (K.link a x e isHost) in
       let w : (at x g S a).waiting x ≡ (S a).waiting x = keep x g S (λ f. f.waiting x) a (λ q. ap (λ (z : Address). (S z).waiting x) (sym q)) in
@@ -100,8 +100,8 @@ module _ {H : List Address} {S : States} {E : List Executed} {M C : Moves} (K : 
       keep x g S (λ f. f.acknowledged x) a (λ q. ap (λ (z : Address). (S z).acknowledged x) (sym q)) in
       let r : (at x g S x).received a ≡ suc ((S x).received a) =
       ap (λ (f : Host). f.received a) (at_self x g S x refl) ∙ at_same a n (S x).received ∙ new in
-      let R : inRoom a (at x g S x).room ≡ b ∷ [] =
-      ap (λ (f : Host). inRoom a f.room) (at_self x g S x refl) ∙ rw (same_refl a) refl in (
+      let R : in_room a (at x g S x).room ≡ b ∷ [] =
+      ap (λ (f : Host). in_room a f.room) (at_self x g S x refl) ∙ rw (same_refl a) refl in (
         link_as refl refl w k r R (link_took L b (sent e)),
         way_as w k r R ∙ way_took L b (sent e) ∙ sym (ap (λ (t : List Body). t ++ drop ((S x).received a - (S a).acknowledged x) ((S a).waiting x)) empty),
       )
@@ -136,7 +136,7 @@ module _ {H : List Address} {S : States} {E : List Executed} {M C : Moves} (K : 
     acknowledged = keep x c S (λ f. f.acknowledged q) p
         (λ e. at_other a n (S x).acknowledged q (d e) ∙ ap (λ (z : Address). (S z).acknowledged q) (sym e));
     received = keep x c S (λ f. f.received p) q (λ e. ap (λ (z : Address). (S z).received p) (sym e));
-    room = keep x c S (λ f. inRoom p f.room) q (λ e. ap (λ (z : Address). inRoom p (S z).room) (sym e));
+    room = keep x c S (λ f. in_room p f.room) q (λ e. ap (λ (z : Address). in_room p (S z).room) (sym e));
   }
 
   there : among a H ≡ true → LinkOf (at x c S) M C x a × (way (at x c S) x a ≡ way S x a)
@@ -146,8 +146,8 @@ module _ {H : List Address} {S : States} {E : List Executed} {M C : Moves} (K : 
       ap (λ (f : Host). f.waiting a) (at_self x c S x refl) ∙ at_same a (drop (n - (S x).acknowledged a) ((S x).waiting a)) (S x).waiting in
       let k : (at x c S x).acknowledged a ≡ n = ap (λ (f : Host). f.acknowledged a) (at_self x c S x refl) ∙ at_same a n (S x).acknowledged in
       let r : (at x c S a).received x ≡ (S a).received x = keep x c S (λ f. f.received x) a (λ q. ap (λ (z : Address). (S z).received x) (sym q)) in
-      let R : inRoom x (at x c S a).room ≡ inRoom x (S a).room =
-      keep x c S (λ f. inRoom x f.room) a (λ q. ap (λ (z : Address). inRoom x (S z).room) (sym q)) in
+      let R : in_room x (at x c S a).room ≡ in_room x (S a).room =
+      keep x c S (λ f. in_room x f.room) a (λ q. ap (λ (z : Address). in_room x (S z).room) (sym q)) in
       let N = link_arrived L n (omega (arith, more)) (true-ack e) in
       (link_as refl refl w k r R N, way_as w k r R ∙ link_way N ∙ sym (link_way L))
 
@@ -169,10 +169,10 @@ module _ {H : List Address} {S : States} {E : List Executed} {M C : Moves} (K : 
 
 module _ (H : List Address) (S : States) (x : Address) (l : Letter) (there : (S x).room ≡ some l) (strange : among l.from H ≡ false) where
   -- it was on its way from no host
-  pub no_way : (a : Address) → among a H ≡ true → inRoom a (S x).room ≡ []
+  pub no_way : (a : Address) → among a H ≡ true → in_room a (S x).room ≡ []
   no_way a e =
       let u : same l.from a ≡ false = same_false l.from a (λ q. among_not a l.from H e strange (sym q)) in
-      ap (inRoom a) there ∙ rw u refl
+      ap (in_room a) there ∙ rw u refl
 
   -- whoever waits for nothing new is a host
   pub freed_cell : {M C : Moves} (g : Host) → g.room ≡ none → ((b : Address) → among b H ≡ true → g.waiting b ≡ (S x).waiting b)
@@ -184,8 +184,8 @@ module _ (H : List Address) (S : States) (x : Address) (l : Letter) (there : (S 
     waiting = keep x g S (λ f. f.waiting b) a (λ q. w b f ∙ ap (λ (z : Address). (S z).waiting b) (sym q));
     acknowledged = keep x g S (λ f. f.acknowledged b) a (λ q. k b ∙ ap (λ (z : Address). (S z).acknowledged b) (sym q));
     received = keep x g S (λ f. f.received a) b (λ q. v a ∙ ap (λ (z : Address). (S z).received a) (sym q));
-    room = keep x g S (λ f. inRoom a f.room) b
-        (λ q. ap (inRoom a) r ∙ sym (no_way a e) ∙ ap (λ (z : Address). inRoom a (S z).room) (sym q));
+    room = keep x g S (λ f. in_room a f.room) b
+        (λ q. ap (in_room a) r ∙ sym (no_way a e) ∙ ap (λ (z : Address). in_room a (S z).room) (sym q));
   }
 
 module _ {H : List Address} {S : States} {E : List Executed} {M C : Moves} (K : Core H S E M C) (x : Address) (isHost : among x H ≡ true)

@@ -7,7 +7,7 @@ use mathlib.Core.Option.{some}
 use Prim.Native.Nat.{ℕ, zero, suc}
 use lib.ListN.{length, drop}
 use Rattle.keys.specs.declared.Bound.TheVariants.{Key, End}
-use Rattle.limits.specs.Limits.{entriesLimit}
+use Rattle.limits.specs.Limits.{entries_limit}
 use Rattle.format.specs.Number.{digits, worth}
 use Rattle.format.specs.Format.{Entry}
 use Rattle.message.specs.Message.{Address, Datagram, get, set, reply, shard, delegate, message, ack}
@@ -18,7 +18,7 @@ use Rattle.protocol.specs.State.{fresh, done}
 use Rattle.protocol.specs.Delivery.{Act, got, stored}
 use Rattle.world.specs.World.{Executed, World, begin}
 use Rattle.world.specs.Events.{network, stranger, receiving, processing, retransmitting, Event, nth, run}
-use Rattle.world.specs.Claims.{onTheWay, host, transfer, claims}
+use Rattle.world.specs.Claims.{on_the_way, host, transfer, claims}
 use Rattle.world.specs.Single.{table_of}
 
 abbrev pub A : Address
@@ -126,7 +126,7 @@ crowded =
     ∷ []
 
 crowded_moves : (claims (run (begin A (B ∷ [])) crowded) 5 ≡ transfer A B 0 ∷ [])
-    × (onTheWay (run (begin A (B ∷ [])) crowded) A B ≡ delegate (Key 0) End (record { key = 5; value = x } ∷ []) ∷ [])
+    × (on_the_way (run (begin A (B ∷ [])) crowded) A B ≡ delegate (Key 0) End (record { key = 5; value = x } ∷ []) ∷ [])
     × (table_of (run (begin A (B ∷ [])) crowded).executed 5 ≡ some x) × (length (run (begin A (B ∷ [])) crowded).sent ≡ 4)
 unfolding digits worth list_of value_of
 crowded_moves = (refl, refl, refl, refl)
@@ -183,7 +183,7 @@ entries (suc n) = entries n ++ (record { key = n; value = [] } ∷ [])
 full : World
 full = record {
   hosts = A ∷ B ∷ [];
-  state = at A (done (fresh A (A ∷ B ∷ []) A).owners (entries entriesLimit) 1 (fresh A (A ∷ B ∷ []) A)) (begin A (B ∷ [])).state;
+  state = at A (done (fresh A (A ∷ B ∷ []) A).owners (entries entries_limit) 1 (fresh A (A ∷ B ∷ []) A)) (begin A (B ∷ [])).state;
   sent = [];
   executed = [];
   made = λ a b. [];

@@ -9,21 +9,21 @@ use native.Mathlib.Omega.{arith}
 use lib.ListN.{length, drop}
 use lib.Dec.{eqb, ltb}
 use borrow.Author.Tests.{ltb-true}
-use Rattle.limits.specs.Limits.{bytesMax}
+use Rattle.limits.specs.Limits.{bytes_max}
 use Rattle.message.specs.Message.{Address, Body, Datagram, message, ack}
 use Rattle.decoding.specs.Decode.{same}
 use Rattle.decoding.proofs.Decided.{same_true}
 use Rattle.protocol.specs.Address.{among, at}
 use Rattle.protocol.specs.State.{Host, turned, different, short}
-use Rattle.protocol.specs.Delivery.{Packet, Step, numberedFrom, waits, resent}
-use Rattle.protocol.specs.Retransmit.{toAll, retransmit}
+use Rattle.protocol.specs.Delivery.{Packet, Step, numbered_from, waits, resent}
+use Rattle.protocol.specs.Retransmit.{to_all, retransmit}
 use Rattle.protocol.specs.Turn.{round, kind, resending, by_kind, ended, turn}
 use Rattle.protocol.proofs.Addresses.{short_among}
 use Rattle.world.specs.World.{Sent, Executed, World}
-use Rattle.world.specs.Events.{Source, network, stranger, Move, receiving, processing, retransmitting, turning, Event, nth, brought, isStranger, arrival, optional, onArrival, step_of, after, step, run}
+use Rattle.world.specs.Events.{Source, network, stranger, Move, receiving, processing, retransmitting, turning, Event, nth, brought, is_stranger, arrival, optional, on_arrival, step_of, after, step, run}
 use Rattle.world.proofs.Lists.{All, all_append, all_map, all_nth, nth_drop, drop_drop}
 use Rattle.world.proofs.Invariant.{States, Moves, Outgoing, Local, Speaks, Spoken, Always}
-use Rattle.world.proofs.Net.{Goes, Fine, fine_same, always_after, From, packetOf}
+use Rattle.world.proofs.Net.{Goes, Fine, fine_same, always_after, From, packet_of}
 use Rattle.world.proofs.Receiving.{fine_receive}
 use Rattle.world.proofs.Processing.{fine_process}
 
@@ -59,12 +59,12 @@ module _ {H : List Address} {W : World} {x : Address} {E : List Executed} {M C :
       once = G.core.once;
     };
     grows = record { received = G.grows.received; made = G.grows.made; told = G.grows.told };
-    spoken = all_map (λ p. Spoken H S E M (packetOf x p)) (λ p. Spoken H (λ y. turned (t y) (S y)) E M (packetOf x p))
+    spoken = all_map (λ p. Spoken H S E M (packet_of x p)) (λ p. Spoken H (λ y. turned (t y) (S y)) E M (packet_of x p))
         (λ p P. record { datagram = P.datagram; valid = P.valid; bytes = P.bytes; from = P.from; speaks = said p P P.datagram P.speaks }) sends G.spoken;
   }
     where
-      said : (p : Packet) (P : Spoken H S E M (packetOf x p)) (d : Datagram) → Speaks H S E M (packetOf x p) d
-          → Speaks H (λ y. turned (t y) (S y)) E M (packetOf x p) d
+      said : (p : Packet) (P : Spoken H S E M (packet_of x p)) (d : Datagram) → Speaks H S E M (packet_of x p) d
+          → Speaks H (λ y. turned (t y) (S y)) E M (packet_of x p) d
       said p P (message n a b) Q = Q
       said p P (ack n) Q = Q
 
@@ -83,7 +83,7 @@ module _ {H : List Address} {W : World} (A : Always H W) (d : different H ≡ tr
 
   -- messages that wait for a are true, and if a is a host, each is the one with its number
   again : (a : Address) (n : ℕ) (l : List Body) → Outgoing H W.executed x a (suc n) l → (among a H ≡ true → l ≡ drop n (W.made x a))
-      → All (λ p. Spoken H W.state W.executed W.made (packetOf x p)) (numberedFrom (suc n) a l)
+      → All (λ p. Spoken H W.state W.executed W.made (packet_of x p)) (numbered_from (suc n) a l)
   again a n [] O e = tt
   again a n (b ∷ l) O e = (
     record {
@@ -100,18 +100,18 @@ module _ {H : List Address} {W : World} (A : Always H W) (d : different H ≡ tr
     again a (suc n) l O.2 (λ h. ap (drop 1) (e h) ∙ drop_drop 1 n (suc n) (W.made x a) (omega arith)),
   )
 
-  again_all : (l : List Address) → All (λ p. Spoken H W.state W.executed W.made (packetOf x p)) (toAll (W.state x) l)
+  again_all : (l : List Address) → All (λ p. Spoken H W.state W.executed W.made (packet_of x p)) (to_all (W.state x) l)
   again_all [] = tt
   again_all (a ∷ l) =
       let u : suc ((W.state x).acknowledged a) ≡ (W.state x).acknowledged a + 1 = omega arith in
-      all_append (λ p. Spoken H W.state W.executed W.made (packetOf x p)) (numberedFrom ((W.state x).acknowledged a + 1) a ((W.state x).waiting a))
-      (toAll (W.state x) l)
-      (subst (λ (n : ℕ). All (λ p. Spoken H W.state W.executed W.made (packetOf x p)) (numberedFrom n a ((W.state x).waiting a))) u
+      all_append (λ p. Spoken H W.state W.executed W.made (packet_of x p)) (numbered_from ((W.state x).acknowledged a + 1) a ((W.state x).waiting a))
+      (to_all (W.state x) l)
+      (subst (λ (n : ℕ). All (λ p. Spoken H W.state W.executed W.made (packet_of x p)) (numbered_from n a ((W.state x).waiting a))) u
       (again a ((W.state x).acknowledged a) ((W.state x).waiting a) ((A.core.local x isHost).outgoing a) (λ h. (A.core.link x a isHost h).waits)))
       (again_all l)
 
   fine_retransmit : Fine H W x (retransmit (W.state x))
-  fine_retransmit = fine_same A x (toAll (W.state x) (W.state x).peers) resent refl (again_all (W.state x).peers)
+  fine_retransmit = fine_same A x (to_all (W.state x) (W.state x).peers) resent refl (again_all (W.state x).peers)
 
   -- ---- what arrives
 
@@ -130,26 +130,26 @@ module _ {H : List Address} {W : World} (A : Always H W) (d : different H ≡ tr
   from_net none f = tt
   from_net (some q) f = from_host q (f q refl) (same q.to x) refl
 
-  from_stranger : (a : Address) (b : List ℕ) (t : Bool) → isStranger W.hosts a ≡ t → Arrives (cond t (some (a, b)) none)
+  from_stranger : (a : Address) (b : List ℕ) (t : Bool) → is_stranger W.hosts a ≡ t → Arrives (cond t (some (a, b)) none)
   from_stranger a b true e = go (among a W.hosts) refl e
     where
-      go : (u : Bool) → among a W.hosts ≡ u → not u && ltb (length a) bytesMax ≡ true → From H W.state W.executed W.made x a b
+      go : (u : Bool) → among a W.hosts ≡ u → not u && ltb (length a) bytes_max ≡ true → From H W.state W.executed W.made x a b
       go true q r = absurd (false≢true r)
       go false q r = record {
-        short = ltb-true (length a) bytesMax r;
+        short = ltb-true (length a) bytes_max r;
         host = λ h. absurd (false≢true (sym q ∙ ap (among a) A.hosts_are ∙ h));
       }
   from_stranger a b false e = tt
 
   arrives : (p : Source) → Arrives (arrival W.hosts W.sent x p)
   arrives (network n) = from_net (nth n W.sent) (λ q e. all_nth (Spoken H W.state W.executed W.made) n W.sent q A.net e)
-  arrives (stranger a b) = from_stranger a b (isStranger W.hosts a) refl
+  arrives (stranger a b) = from_stranger a b (is_stranger W.hosts a) refl
 
   arrives_maybe : (p : Option Source) → Arrives (optional W.hosts W.sent x p)
   arrives_maybe none = tt
   arrives_maybe (some p) = arrives p
 
-  fine_arrival : (roomy : Bool) (p : Option (Address × List ℕ)) → Arrives p → Fine H W x (onArrival roomy (W.state x) p)
+  fine_arrival : (roomy : Bool) (p : Option (Address × List ℕ)) → Arrives p → Fine H W x (on_arrival roomy (W.state x) p)
   fine_arrival roomy none F = fine_same A x [] waits refl tt
   fine_arrival roomy (some p) F = fine_receive A x isHost p.0 p.1 F roomy
 
@@ -190,4 +190,4 @@ module _ {H : List Address} (d : different H ≡ true) (s : short H ≡ true) wh
 
   pub always_run : {W : World} → Always H W → (l : List Event) → Always H (run W l)
   always_run A [] = A
-  always_run A (e ∷ l) = always_run (always_step A e) l
+  always_run {W = W} A (e ∷ l) = always_run {W = step W e} (always_step A e) l

@@ -11,8 +11,8 @@ use Rattle.message.specs.Message.{Address, Body, Datagram, message, reply, redir
 use Rattle.decoding.specs.Decode.{same, read}
 use Rattle.decoding.proofs.Decided.{same_refl}
 use Rattle.decoding.proofs.Laws.{read_written}
-use Rattle.protocol.specs.Owners.{ownerOf}
-use Rattle.protocol.specs.Delivery.{Packet, numberedFrom}
+use Rattle.protocol.specs.Owners.{owner_of}
+use Rattle.protocol.specs.Delivery.{Packet, numbered_from}
 use Rattle.protocol.proofs.Addresses.{same_false}
 use Rattle.world.specs.World.{Sent, World, begin}
 use Rattle.world.specs.Events.{run}
@@ -38,7 +38,7 @@ module _ {W : World} (A : Always W.hosts W) where
       (some-injective P.datagram d (sym (read_written P.datagram P.valid) ∙ ap read (sym P.bytes) ∙ e)) P.speaks
 
   -- what waits may be written
-  waits_writable : (x c : Address) (n : ℕ) (l : List Body) → Outgoing W.hosts W.executed x c n l → (p : Packet) → Among p (numberedFrom n c l)
+  waits_writable : (x c : Address) (n : ℕ) (l : List Body) → Outgoing W.hosts W.executed x c n l → (p : Packet) → Among p (numbered_from n c l)
       → Writable p.bytes
   waits_writable x c n [] O p a = absurd a
   waits_writable x c n (b ∷ l) O p (inl e) = (message n c b, O.0, ap (λ (q : Packet). q.bytes) e)
@@ -59,7 +59,7 @@ module _ {W : World} (A : Always W.hosts W) where
         waits_writable x c ((W.state x).acknowledged c + 1) ((W.state x).waiting c)
         (subst (λ (n : ℕ). Outgoing W.hosts W.executed x c n ((W.state x).waiting c)) u ((A.core.local x e).outgoing c)) p a;
     host_records = λ k x e o. A.core.right k x e (ap (λ (z : Address). same z x) o ∙ same_refl x);
-    no_other_records = λ k x e n. A.core.clean k x e (same_false (ownerOf (W.state x).owners k) x n);
+    no_other_records = λ k x e n. A.core.clean k x e (same_false (owner_of (W.state x).owners k) x n);
     transfer_records = λ k a b e f m q w.
         all_among (λ c. moves c k ≡ true → says c k ≡ table_of W.executed k) (way W.state a b) m (A.core.right_way k a b e f) q w;
   }

@@ -8,28 +8,28 @@ use Rattle.keys.specs.Bound.{holds}
 use Rattle.message.specs.Message.{Address, Body, get, set, reply, redirect, shard, delegate}
 use Rattle.decoding.specs.Decode.{same}
 use Rattle.protocol.specs.Records.{Value, look}
-use Rattle.protocol.specs.Owners.{ownerOf}
+use Rattle.protocol.specs.Owners.{owner_of}
 use Rattle.protocol.specs.State.{Host, Letter}
 use Rattle.world.specs.World.{World}
 
 -- does the host's map say "mine"?
 abbrev pub mine : Host → Address → ℕ → Bool
-mine h x k = same (ownerOf h.owners k) x
+mine h x k = same (owner_of h.owners k) x
 
 -- ---- transfers on their way
 
 -- what of a's is in the room
-abbrev pub inRoom : Address → Option Letter → List Body
-inRoom a none = []
-inRoom a (some l) = cond (same l.from a) (l.body ∷ []) []
+abbrev pub in_room : Address → Option Letter → List Body
+in_room a none = []
+in_room a (some l) = cond (same l.from a) (l.body ∷ []) []
 
 -- what waits for b at the host s, above what t has received from it
-abbrev pub notReceived : (a b : Address) → (s t : Host) → List Body
-notReceived a b s t = drop (t.received a - s.acknowledged b) (s.waiting b)
+abbrev pub not_received : (a b : Address) → (s t : Host) → List Body
+not_received a b s t = drop (t.received a - s.acknowledged b) (s.waiting b)
 
 -- what is on its way from a to b, in order: the message in b's room comes first
-abbrev pub onTheWay : World → (a b : Address) → List Body
-onTheWay W a b = inRoom a (W.state b).room ++ notReceived a b (W.state a) (W.state b)
+abbrev pub on_the_way : World → (a b : Address) → List Body
+on_the_way W a b = in_room a (W.state b).room ++ not_received a b (W.state a) (W.state b)
 
 -- is it a transfer of the key?
 abbrev pub moves : Body → ℕ → Bool
@@ -56,22 +56,22 @@ pub data Claim : Type 0 where
   host : Address → Claim
   transfer : (from to : Address) → (place : ℕ) → Claim
 
-abbrev pub hostClaims : World → ℕ → List Address → List Claim
-hostClaims W k [] = []
-hostClaims W k (x ∷ l) = cond (mine (W.state x) x k) (host x ∷ []) [] ++ hostClaims W k l
+abbrev pub host_claims : World → ℕ → List Address → List Claim
+host_claims W k [] = []
+host_claims W k (x ∷ l) = cond (mine (W.state x) x k) (host x ∷ []) [] ++ host_claims W k l
 
-abbrev pub wayClaims : (a b : Address) → ℕ → ℕ → List Body → List Claim
-wayClaims a b k i [] = []
-wayClaims a b k i (m ∷ l) = cond (moves m k) (transfer a b i ∷ []) [] ++ wayClaims a b k (suc i) l
+abbrev pub way_claims : (a b : Address) → ℕ → ℕ → List Body → List Claim
+way_claims a b k i [] = []
+way_claims a b k i (m ∷ l) = cond (moves m k) (transfer a b i ∷ []) [] ++ way_claims a b k (suc i) l
 
 -- .. from a to each of these hosts, and from each of those
-abbrev pub claimsFrom : World → ℕ → Address → List Address → List Claim
-claimsFrom W k a [] = []
-claimsFrom W k a (b ∷ l) = wayClaims a b k 0 (onTheWay W a b) ++ claimsFrom W k a l
+abbrev pub claims_from : World → ℕ → Address → List Address → List Claim
+claims_from W k a [] = []
+claims_from W k a (b ∷ l) = way_claims a b k 0 (on_the_way W a b) ++ claims_from W k a l
 
-abbrev pub transferClaims : World → ℕ → List Address → List Claim
-transferClaims W k [] = []
-transferClaims W k (a ∷ l) = claimsFrom W k a W.hosts ++ transferClaims W k l
+abbrev pub transfer_claims : World → ℕ → List Address → List Claim
+transfer_claims W k [] = []
+transfer_claims W k (a ∷ l) = claims_from W k a W.hosts ++ transfer_claims W k l
 
 abbrev pub claims : World → ℕ → List Claim
-claims W k = hostClaims W k W.hosts ++ transferClaims W k W.hosts
+claims W k = host_claims W k W.hosts ++ transfer_claims W k W.hosts

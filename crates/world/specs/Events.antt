@@ -4,7 +4,7 @@
 -- Assumes nothing.
 use Rattle.std.specs.Prelude.{Bool, cond, ◌&&◌, not, List, [], ◌∷◌, ◌++◌, ℕ, zero, suc, length, take, ltb}
 use Rattle.std.proofs.Math.Option.{Option, none, some}
-use Rattle.limits.specs.Limits.{bytesMax}
+use Rattle.limits.specs.Limits.{bytes_max}
 use Rattle.message.specs.Message.{Address, Body, get, set, reply, redirect, shard, delegate}
 use Rattle.decoding.specs.Decode.{same}
 use Rattle.protocol.specs.Address.{among, at}
@@ -51,13 +51,13 @@ brought x none = none
 brought x (some p) = cond (same p.to x) (some (p.from, p.bytes)) none
 
 -- an address is a string shorter than document 01, section 3, has it
-abbrev pub isStranger : List Address → Address → Bool
-isStranger hosts a = not (among a hosts) && ltb (length a) bytesMax
+abbrev pub is_stranger : List Address → Address → Bool
+is_stranger hosts a = not (among a hosts) && ltb (length a) bytes_max
 
 -- what a source brings to x, if these are the hosts and that was handed out
 abbrev pub arrival : List Address → List Sent → Address → Source → Option (Address × List ℕ)
 arrival hosts sent x (network n) = brought x (nth n sent)
-arrival hosts sent x (stranger a s) = cond (isStranger hosts a) (some (a, s)) none
+arrival hosts sent x (stranger a s) = cond (is_stranger hosts a) (some (a, s)) none
 
 abbrev pub optional : List Address → List Sent → Address → Option Source → Option (Address × List ℕ)
 optional hosts sent x none = none
@@ -65,12 +65,12 @@ optional hosts sent x (some s) = arrival hosts sent x s
 
 -- ---- the host's step
 
-abbrev pub onArrival : Bool → Host → Option (Address × List ℕ) → Step
-onArrival roomy h none = still h waits
-onArrival roomy h (some p) = receive roomy h p.0 p.1
+abbrev pub on_arrival : Bool → Host → Option (Address × List ℕ) → Step
+on_arrival roomy h none = still h waits
+on_arrival roomy h (some p) = receive roomy h p.0 p.1
 
 abbrev pub step_of : World → Address → Move → Step
-step_of W x (receiving s roomy) = onArrival roomy (W.state x) (arrival W.hosts W.sent x s)
+step_of W x (receiving s roomy) = on_arrival roomy (W.state x) (arrival W.hosts W.sent x s)
 step_of W x (processing fits) = process fits (W.state x)
 step_of W x retransmitting = retransmit (W.state x)
 step_of W x (turning s roomy fits) = turn roomy fits (W.state x) (optional W.hosts W.sent x s)
@@ -89,26 +89,26 @@ pub data Trace : Type 0 where
   takes : Trace
   passes : Trace
 
-abbrev pub traceOf : Outcome → Trace
-traceOf full = passes
-traceOf invalid = passes
-traceOf elsewhere = passes
-traceOf taken = passes
-traceOf unreceived = passes
-traceOf again = passes
-traceOf future = passes
-traceOf arrived = passes
-traceOf stale = passes
-traceOf idle = passes
-traceOf stuck = passes
-traceOf replied = passes
-traceOf redirected = passes
-traceOf dropped = passes
-traceOf unnumbered = passes
-traceOf accepted = takes
-traceOf handed = gives
-traceOf resent = passes
-traceOf waits = passes
+abbrev pub trace_of : Outcome → Trace
+trace_of full = passes
+trace_of invalid = passes
+trace_of elsewhere = passes
+trace_of taken = passes
+trace_of unreceived = passes
+trace_of again = passes
+trace_of future = passes
+trace_of arrived = passes
+trace_of stale = passes
+trace_of idle = passes
+trace_of stuck = passes
+trace_of replied = passes
+trace_of redirected = passes
+trace_of dropped = passes
+trace_of unnumbered = passes
+trace_of accepted = takes
+trace_of handed = gives
+trace_of resent = passes
+trace_of waits = passes
 
 -- the transfer that a Shard asks for: the range with its entries
 abbrev pub asked : Host → Body → Moved
@@ -120,38 +120,38 @@ asked h (redirect k a) = neither
 asked h (delegate lo hi es) = neither
 
 -- the host h has handed a range over as the message in its room asked, or has accepted the transfer in its room
-abbrev pub movedBy : Trace → Host → Option Letter → Moved
-movedBy gives h none = neither
-movedBy gives h (some l) = asked h l.body
-movedBy takes h none = neither
-movedBy takes h (some l) = carried l.from l.body
-movedBy passes h r = neither
+abbrev pub moved_by : Trace → Host → Option Letter → Moved
+moved_by gives h none = neither
+moved_by gives h (some l) = asked h l.body
+moved_by takes h none = neither
+moved_by takes h (some l) = carried l.from l.body
+moved_by passes h r = neither
 
 abbrev pub moved : Host → Outcome → Moved
-moved h o = movedBy (traceOf o) h h.room
+moved h o = moved_by (trace_of o) h h.room
 
 -- the list for that pair of hosts, with one more at its end
 abbrev pub noted : (from to : Address) → Body → (Address → Address → List Body) → Address → Address → List Body
 noted a b m f = at a (at b (f a b ++ (m ∷ [])) (f a)) f
 
-abbrev pub madeAfter : Address → Moved → (Address → Address → List Body) → Address → Address → List Body
-madeAfter x (made a m) f = noted x a m f
-madeAfter x (carried a m) f = f
-madeAfter x neither f = f
+abbrev pub made_after : Address → Moved → (Address → Address → List Body) → Address → Address → List Body
+made_after x (made a m) f = noted x a m f
+made_after x (carried a m) f = f
+made_after x neither f = f
 
-abbrev pub carriedAfter : Address → Moved → (Address → Address → List Body) → Address → Address → List Body
-carriedAfter x (made a m) f = f
-carriedAfter x (carried a m) f = noted a x m f
-carriedAfter x neither f = f
+abbrev pub carried_after : Address → Moved → (Address → Address → List Body) → Address → Address → List Body
+carried_after x (made a m) f = f
+carried_after x (carried a m) f = noted a x m f
+carried_after x neither f = f
 
 -- the answer to a request gets the number that is next for its sender
-abbrev pub executedAfter : Address → Host → Option Request → List Executed → List Executed
-executedAfter x h none l = l
-executedAfter x h (some r) l = record { host = x; request = r; answer = next h r.from } ∷ l
+abbrev pub executed_after : Address → Host → Option Request → List Executed → List Executed
+executed_after x h none l = l
+executed_after x h (some r) l = record { host = x; request = r; answer = next h r.from } ∷ l
 
-abbrev pub sentBy : Address → List Packet → List Sent
-sentBy x [] = []
-sentBy x (p ∷ l) = record { from = x; to = p.to; bytes = p.bytes } ∷ sentBy x l
+abbrev pub sent_by : Address → List Packet → List Sent
+sent_by x [] = []
+sent_by x (p ∷ l) = record { from = x; to = p.to; bytes = p.bytes } ∷ sent_by x l
 
 -- ---- the world after it
 
@@ -160,10 +160,10 @@ abbrev pub after : World → Address → ℕ → Step → World
 after W x n s = record {
   hosts = W.hosts;
   state = at x s.state W.state;
-  sent = W.sent ++ sentBy x (take n s.sends);
-  executed = executedAfter x (W.state x) s.executed W.executed;
-  made = madeAfter x (moved (W.state x) s.outcome) W.made;
-  carried = carriedAfter x (moved (W.state x) s.outcome) W.carried;
+  sent = W.sent ++ sent_by x (take n s.sends);
+  executed = executed_after x (W.state x) s.executed W.executed;
+  made = made_after x (moved (W.state x) s.outcome) W.made;
+  carried = carried_after x (moved (W.state x) s.outcome) W.carried;
 }
 
 -- only hosts take steps

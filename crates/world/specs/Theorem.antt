@@ -8,12 +8,12 @@ use Rattle.message.specs.Table.{written, Valid}
 use Rattle.decoding.specs.Decode.{read}
 use Rattle.protocol.specs.Address.{among}
 use Rattle.protocol.specs.Records.{Value, look}
-use Rattle.protocol.specs.Owners.{ownerOf}
+use Rattle.protocol.specs.Owners.{owner_of}
 use Rattle.protocol.specs.State.{different, short}
-use Rattle.protocol.specs.Delivery.{Packet, numberedFrom}
+use Rattle.protocol.specs.Delivery.{Packet, numbered_from}
 use Rattle.world.specs.World.{Sent, Executed, World, begin}
 use Rattle.world.specs.Events.{Event, nth, run}
-use Rattle.world.specs.Claims.{onTheWay, moves, says, Claim, host, transfer, claims}
+use Rattle.world.specs.Claims.{on_the_way, moves, says, Claim, host, transfer, claims}
 use Rattle.world.specs.Single.{Among, table_of, Answered, answer, Once}
 
 -- the address is a host's
@@ -24,8 +24,8 @@ IsHost W x = among x W.hosts ≡ true
 
 -- the claim c has the key k
 abbrev pub Has : World → ℕ → Claim → Type 0
-Has W k (host x) = IsHost W x × (ownerOf (W.state x).owners k ≡ x)
-Has W k (transfer a b i) = IsHost W a × IsHost W b × ((m : Body) × (nth i (onTheWay W a b) ≡ some m) × (moves m k ≡ true))
+Has W k (host x) = IsHost W x × (owner_of (W.state x).owners k ≡ x)
+Has W k (transfer a b i) = IsHost W a × IsHost W b × ((m : Body) × (nth i (on_the_way W a b) ≡ some m) × (moves m k ≡ true))
 
 -- one claim has the key, and no other
 abbrev pub OneOwner : World → ℕ → Type 0
@@ -35,7 +35,7 @@ OneOwner W k = (c : Claim) × Has W k c × ((d : Claim) → Has W k d → d ≡ 
 
 -- those ever made from one host to another are, in order, those that were carried out and then those on their way
 abbrev pub Transfers : World → Address → Address → Type 0
-Transfers W a b = W.made a b ≡ W.carried a b ++ onTheWay W a b
+Transfers W a b = W.made a b ≡ W.carried a b ++ on_the_way W a b
 
 -- ---- 3. one table
 
@@ -61,7 +61,7 @@ Writable s = (d : Datagram) × Valid d × (s ≡ written d)
 
 -- what waits for c at the host x, as the datagrams that sending again hands out
 abbrev pub waits : World → (x c : Address) → List Packet
-waits W x c = numberedFrom ((W.state x).acknowledged c + 1) c ((W.state x).waiting c)
+waits W x c = numbered_from ((W.state x).acknowledged c + 1) c ((W.state x).waiting c)
 
 -- ---- all of it
 
@@ -79,9 +79,9 @@ pub record Holds (W : World) : Type 0 where
   pub sent_writable : (p : Sent) → Among p W.sent → Writable p.bytes
   pub waiting_writable : (x c : Address) → IsHost W x → (p : Packet) → Among p (waits W x c) → Writable p.bytes
   -- 4. who has the key, host or transfer, holds for it what the one table holds; and a host holds nothing else
-  pub host_records : (k : ℕ) (x : Address) → IsHost W x → ownerOf (W.state x).owners k ≡ x → look k (W.state x).records ≡ table_of W.executed k
-  pub no_other_records : (k : ℕ) (x : Address) → IsHost W x → (ownerOf (W.state x).owners k ≡ x → ⊥) → look k (W.state x).records ≡ none
-  pub transfer_records : (k : ℕ) (a b : Address) → IsHost W a → IsHost W b → (m : Body) → Among m (onTheWay W a b) → moves m k ≡ true
+  pub host_records : (k : ℕ) (x : Address) → IsHost W x → owner_of (W.state x).owners k ≡ x → look k (W.state x).records ≡ table_of W.executed k
+  pub no_other_records : (k : ℕ) (x : Address) → IsHost W x → (owner_of (W.state x).owners k ≡ x → ⊥) → look k (W.state x).records ≡ none
+  pub transfer_records : (k : ℕ) (a b : Address) → IsHost W a → IsHost W b → (m : Body) → Among m (on_the_way W a b) → moves m k ≡ true
       → says m k ≡ table_of W.executed k
 
 -- The theorem: for every nonempty list of different hosts, all started with it, and every list of events

@@ -3,7 +3,7 @@
 use mathlib.Core.Path.{ap}
 use mathlib.Core.Bool.{false}
 use native.Mathlib.Omega.{arith}
-use Rattle.protocol.specs.Process.{onDelegate}
+use Rattle.protocol.specs.Process.{on_delegate}
 use Rattle.hosts.specs.declared.Done.{Done}
 use Rattle.hosts.specs.Memory.{memory}
 use Rattle.accepting.proofs.Laws.{set_as, replace_as, set_fits, replaced_or, does_taken}
@@ -21,13 +21,13 @@ returns-in_default c =
     let r = c.set-set in
     record {
       freed = ap (λ (x : Done). x.state.len) c.dropped.ensures;
-      is = λ nameLens names counts places mail h l es C R.
+      is = λ name_lens names counts places mail h l es C R.
           set_fits
-          (memory a.lows.now a.owners.now a.keys.now a.slots.now a.lens.now a.values.now nameLens names counts places mail)
+          (memory a.lows.now a.owners.now a.keys.now a.slots.now a.lens.now a.values.now name_lens names counts places mail)
           a.k h C a.s.now a.lo a.hi a.ks.now a.ats.now a.ls.now a.m es R _ _
           (set_as c.in_default.is r.ensures)
-          (memory r.new.lows r.new.owners a.keys.now a.slots.now a.lens.now a.values.now nameLens names counts places mail)
-          c.dropped.result (onDelegate false h l a.lo a.hi es);
+          (memory r.new.lows r.new.owners a.keys.now a.slots.now a.lens.now a.values.now name_lens names counts places mail)
+          c.dropped.result (on_delegate false h l a.lo a.hi es);
     }
 
 pub shape_of-lows : goal.shape_of-lows
@@ -56,8 +56,8 @@ returns c =
     let q = c.replace-replaced in
     record {
       freed = c.taken.ensures.freed;
-      is = λ nameLens names counts places mail h l es C R.
-          let m = memory a.lows.now a.owners.now a.keys.now a.slots.now a.lens.now a.values.now nameLens names counts places mail in
+      is = λ name_lens names counts places mail h l es C R.
+          let m = memory a.lows.now a.owners.now a.keys.now a.slots.now a.lens.now a.values.now name_lens names counts places mail in
           let e = replaced_or m a.k h C a.s.now a.lo a.hi a.ks.now a.ats.now a.ls.now a.m es R _ _ _ _ _ q.ensures in
           does_taken m a.k h C a.s.now a.lo a.hi a.ks.now a.ats.now a.ls.now a.m es R _ e.0 _ _ _ _ _ _
           (set_as c.in-Bounds.is c.set-set.ensures)

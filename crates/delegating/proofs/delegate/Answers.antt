@@ -5,7 +5,7 @@ use mathlib.Core.List.{List, ◌++◌}
 use Prim.Native.Nat.{ℕ, ◌+◌, ◌-◌, ◌≤◌, ◌<◌}
 use native.Mathlib.Omega.{arith}
 use lib.ListN.{length, get_or, length-append}
-use Rattle.limits.specs.Limits.{bytesMax}
+use Rattle.limits.specs.Limits.{bytes_max}
 use Rattle.memory.proofs.Copies.{copied_yes, copied_then, copied_length}
 use Rattle.keys.specs.declared.Bound.{Bound}
 use Rattle.format.specs.Number.{width, numbers}
@@ -21,7 +21,7 @@ use Rattle.delegating.proofs.delegate.Goals as goal
 
 -- the bytes of the bounds and the list
 long : (lo hi : Bound) (l : List Entry) (x y z : ℕ) → x ≡ length (encode (maybe number) (key_of lo)) → y ≡ length (encode (maybe number) (key_of hi))
-    → z ≡ length (listing l) → x + y + z ≡ length (encode (pair range (entries bytesMax)) ((key_of lo, key_of hi), l))
+    → z ≡ length (listing l) → x + y + z ≡ length (encode (pair range (entries bytes_max)) ((key_of lo, key_of hi), l))
 long lo hi l x y z p q r =
     let a : List ℕ = encode (maybe number) (key_of lo) in
     let b : List ℕ = encode (maybe number) (key_of hi) in
@@ -121,7 +121,7 @@ returns-in-At c =
     let w = copied_then (lo ++ hi) (listing list) _ _ _ _ _ (omega (arith, p, q, both)) (omega (arith, z, Z.0, p, q, both, s.is.2, start_length s)) x y in
     let g = entered_good a.keys.now a.ats.now a.lens.now a.bytes.now a.m C R.1 keys short few (omega (arith, Z.0, Z.1)) in
     let m = long a.lo a.hi list _ _ _ p q (Z.0 ∙ sym z) in
-    record { is = (C, (message_written (delegate a.lo a.hi list) a.n a.to.now 5 ((key_of a.lo, key_of a.hi), list) a.d.now known (omega arith) refl (fields_written (pair range (entries bytesMax)) ((key_of a.lo, key_of a.hi), list) a.n a.to.now 5 _ a.d.now m s ((c.bound.ensures.1, c.bound-in-At.ensures.1), g) w)).is) }
+    record { is = (C, (message_written (delegate a.lo a.hi list) a.n a.to.now 5 ((key_of a.lo, key_of a.hi), list) a.d.now known (omega arith) refl (fields_written (pair range (entries bytes_max)) ((key_of a.lo, key_of a.hi), list) a.n a.to.now 5 _ a.d.now m s ((c.bound.ensures.1, c.bound-in-At.ensures.1), g) w)).is) }
 
 pub returns-in-NoRoom : goal.returns-in-NoRoom
 returns-in-NoRoom c =
@@ -135,7 +135,7 @@ returns-in-NoRoom c =
     let z : length (listing list) ≡ width + sizes a.lens.now 0 a.m = listing_size a.keys.now a.ats.now a.lens.now a.bytes.now a.m C in
     let known : a.n < numbers = omega (arith, c.ranges) in
     let m = long a.lo a.hi list _ _ _ c.bound_length-low.ensures.0 c.bound_length.ensures.0 (Z.0 ∙ sym z) in
-    record { is = (C, (message_written (delegate a.lo a.hi list) a.n a.to.now 5 ((key_of a.lo, key_of a.hi), list) a.d.now known (omega arith) refl (fields_no_room (pair range (entries bytesMax)) ((key_of a.lo, key_of a.hi), list) a.n a.to.now 5 _ a.d.now m s)).is) }
+    record { is = (C, (message_written (delegate a.lo a.hi list) a.n a.to.now 5 ((key_of a.lo, key_of a.hi), list) a.d.now known (omega arith) refl (fields_no_room (pair range (entries bytes_max)) ((key_of a.lo, key_of a.hi), list) a.n a.to.now 5 _ a.d.now m s)).is) }
 
 pub returns-in-Invalid : goal.returns-in-Invalid
 returns-in-Invalid c =

@@ -6,7 +6,7 @@ use native.Mathlib.Omega.{arith}
 use borrow.Author.Rules.{rules}
 use Rattle.processing.proofs.process.Statement.{statement}
 use Rattle.processing.proofs.process.Tie as tie
-use Rattle.processing.proofs.Laws.{isMessage, nothing, too_long, no_message, letters}
+use Rattle.processing.proofs.Laws.{is_message, nothing, too_long, no_message, letters}
 
 staying-requires : tie.Need-staying-requires
 staying-requires c κs = search rules
@@ -94,11 +94,11 @@ returns-3 c =
 
 returns-4 : tie.Need-returns-4
 returns-4 c =
-    no_message (omega (arith, c.before.before.before.before.before.before.before.if1.false)) c.before.before.before.parse.ensures (ap isMessage c.before.enum_told.given.1) c.staying3.ensures
+    no_message (omega (arith, c.before.before.before.before.before.before.before.if1.false)) c.before.before.before.parse.ensures (ap is_message c.before.enum_told.given.1) c.staying3.ensures
 
 returns-5 : tie.Need-returns-5
 returns-5 c =
-    no_message (omega (arith, c.before.before.before.before.before.before.before.if1.false)) c.before.before.before.parse.ensures (ap isMessage c.before.enum-told2.given.1) c.staying4.ensures
+    no_message (omega (arith, c.before.before.before.before.before.before.before.if1.false)) c.before.before.before.parse.ensures (ap is_message c.before.enum-told2.given.1) c.staying4.ensures
 
 pub process-spec : {M : Type 1} → statement M
 process-spec =

@@ -6,7 +6,7 @@ use Prim.Native.Nat.{ℕ, ◌+◌, ◌-◌}
 use native.Mathlib.Omega.{arith}
 use native.Mathlib.Numerals.{add-one}
 use Rattle.delivery.proofs.Counting.{total_before}
-use Rattle.resending.specs.Answers.{Letter, letters, lettersTo}
+use Rattle.resending.specs.Answers.{Letter, letters, letters_to}
 use Rattle.resending.proofs.Laws.{peer_as, written}
 use Rattle.resending.proofs.all.Goals as goal
 
@@ -43,7 +43,7 @@ loop-i-preserved c =
       omega (arith, c.loop-i-test.true),
       f.is.2 l.invariant.3,
       λ mail size P K. rw (add-one l.i)
-          (f.is.1 mail size a.n P K c.loop-i-test.true ∙ ap (λ (x : List Letter). x ++ lettersTo P l.i) (l.invariant.4 mail size P K)),
+          (f.is.1 mail size a.n P K c.loop-i-test.true ∙ ap (λ (x : List Letter). x ++ letters_to P l.i) (l.invariant.4 mail size P K)),
     )
 
 pub returns : goal.returns

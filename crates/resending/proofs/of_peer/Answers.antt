@@ -6,7 +6,7 @@ use Prim.Native.Nat.{ℕ, suc, ◌+◌, ◌-◌, ◌<◌}
 use native.Mathlib.Omega.{arith}
 use lib.ListN.{length, length-set}
 use lib.Seq.{take_all}
-use Rattle.resending.specs.Answers.{letterTo, named}
+use Rattle.resending.specs.Answers.{letter_to, named}
 use Rattle.resending.proofs.Laws.{find_as, within_more, letter_more}
 use Rattle.resending.proofs.of_peer.Goals as goal
 
@@ -65,7 +65,7 @@ returns c =
       is = (
         l.invariant.1,
         λ mail size n P K h. l.invariant.5 mail size n P K h
-            ∙ ap (λ (x : List (List ℕ)). named a.places.now mail size a.from a.out.now ++ map (letterTo a.peer) x)
+            ∙ ap (λ (x : List (List ℕ)). named a.places.now mail size a.from a.out.now ++ map (letter_to a.peer) x)
             (take_all (l.number - k.result.acknowledged) (P.waiting a.peer) (omega (arith, c.loop-number-test.false, k.ensures.acknowledged _ mail size n P K h, k.ensures.last _ mail size n P K h))),
         l.invariant.4,
       );

@@ -1,6 +1,7 @@
 -- `rooms::shard` meets its contract.
 -- Assumes nothing.
 use Rattle.rooms.proofs.Shards.{shard_as, shard_nobody, shard_stays, shard_full, shard_bounds}
+use borrow.Author.Tests.{not-true, not-false}
 use Rattle.rooms.proofs.shard.Goals as goal
 
 pub returns-in_default : goal.returns-in_default
@@ -13,11 +14,11 @@ returns-then-not-movable c =
 
 pub returns-then-not-free : goal.returns-then-not-free
 returns-then-not-free c =
-    shard_as c.if-not-free.true
+    shard_as (not-true _ c.if-not-free.true)
     (shard_full c.movable.ensures c.if-not-movable.false c.recipient.ensures c.in-Is.is
-    c.vacant-free.ensures c.if-not-free.true)
+    c.vacant-free.ensures (not-true _ c.if-not-free.true))
 
 pub returns : goal.returns
 returns c =
     shard_bounds c.movable.ensures c.if-not-movable.false c.recipient.ensures c.in-Is.is
-    c.vacant-free.ensures c.if-not-free.false c.fits.ensures
+    c.vacant-free.ensures (not-false _ c.if-not-free.false) c.fits.ensures

@@ -5,7 +5,7 @@ use mathlib.Core.List.{List}
 use Prim.Native.Nat.{ℕ, ◌≤◌}
 use native.Mathlib.Omega.{arith}
 use lib.ListN.{length}
-use Rattle.limits.specs.Limits.{valueMax}
+use Rattle.limits.specs.Limits.{value_max}
 use Rattle.searches.specs.Search.{SeekCases}
 use Rattle.searches.specs.declared.Spot.TheVariants.{Old, New}
 use Rattle.searches.proofs.Spots.{sought_as}
@@ -34,7 +34,7 @@ added keys slots lens values n p key v TooLong keys' slots' lens' values' A s = 
 
 -- .. and another value at its place is what setting a key that is there answers
 renewed : (keys slots lens values : List ℕ) (n i key : ℕ) (v : Value) (r : Stored) (lens' values' : List ℕ) → RenewCases r slots lens values n i v lens' values'
-    → length v ≤ valueMax → SeekCases (Old i) keys n key → SetCases r keys slots lens values n key v keys slots lens' values'
+    → length v ≤ value_max → SeekCases (Old i) keys n key → SetCases r keys slots lens values n key v keys slots lens' values'
 renewed keys slots lens values n i key v (Entries m) lens' values' A short s =
     λ T K. rw (A.0, A.2, A.3) (keeps_overwrite keys slots lens values n T K key v short i A.1.place s.0 s.2)
 renewed keys slots lens values n i key v Full lens' values' A short s =
