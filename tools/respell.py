@@ -1,7 +1,7 @@
 #!/usr/bin/env python3
 """Brings the repository's own names of definitions and lemmas to the library's spelling: words in snake case, types in camel case.
 
-usage: tools/respell.py          at the top of the repository, once, after the kit's port.py
+usage: tools/respell.py          at the top of the repository, after the kit's port.py; a second run changes nothing
 
 A dash in a name that specs/ or proofs/*.antt declares becomes an underscore, and so does the seam before a capital in a name that begins with a small
 letter. Names of answers (proofs/FUNCTION/*.antt) stay, since goals name them.
@@ -15,7 +15,7 @@ DECLARED = re.compile(r'\s*(?:(?:abbrev|pub|unfoldable|data|record|module|let|wh
 BINDER = re.compile(r'(?<!\S)(?:let|λ)\s+([^\s(){}.;,@"]+)')
 # a lemma that would have its function's name gets _lem; a fact is spelled as a type
 SPECIAL = {"last-of": "last_of_lem", "key-at": "key_at_lem", "value-at": "value_at_lem"}
-SPECIAL |= {"ackOutcome": "ack_outcome_of", "turnedPlace": "turned_place_of", "processedPlace": "processed_place_of", "getD_row": "get_or_row"}
+SPECIAL |= {"ackOutcome": "ack_outcome_of", "turnedPlace": "turned_place_of", "processedPlace": "processed_place_of", "getD_row": "get_or_row", "getD-row": "get_or_row"}
 LEMMAS = {
     "crates/upstream/proofs/Views.antt": ["ack-of"],
     "crates/upstream/proofs/Receives.antt": ["ack-of"],
@@ -47,6 +47,11 @@ def is_answers(path):
     return parts[2] == "proofs" and len(parts) > 4
 
 
+def snake(name):
+    name = name.replace("-", "_")
+    return re.sub(r"(?<=[a-z0-9])([A-Z])", lambda m: "_" + m.group(1).lower(), name) if name[0].islower() else name
+
+
 def declared(text):
     found = set()
     for line in text.splitlines():
@@ -74,15 +79,15 @@ def main():
     for path in files("crates", ".antt"):
         if not is_answers(path):
             for name in declared(read(path)):
-                if "-" in name and re.search(r"\w", name) and not name.startswith("-"):
-                    table[name] = SPECIAL.get(name, name.replace("-", "_"))
-                elif re.match(r"[a-z]", name) and re.search(r"[a-z0-9][A-Z]", name):
-                    table[name] = SPECIAL.get(name, re.sub(r"(?<=[a-z0-9])([A-Z])", lambda m: "_" + m.group(1).lower(), name))
+                new = SPECIAL.get(name, snake(name))
+                if new != name and re.match(r"\w", name):
+                    table[name] = new
     changed = 0
     paths = list(files("crates", ".antt", ".rt", ".edit")) + list(files("docs", ".md")) + ["README.md"]
     for path in paths:
         text = read(path)
-        own = {**table, **ONE_FILE.get(path, {})}
+        lemmas = ONE_FILE.get(path, {})
+        own = table if any(new in WORD.findall(text) for new in lemmas.values()) else {**table, **lemmas}
         stays = brought(text, crates)
         if path.endswith(".antt") and is_answers(path):
             stays |= {m.group(1) for m in map(DECLARED.match, text.splitlines()) if m and not m.group(0)[0].isspace()}

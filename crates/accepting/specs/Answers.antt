@@ -3,7 +3,6 @@
 use Rattle.std.specs.Prelude.{◌≡◌, true, false, List, ℕ, ◌-◌, ◌≤◌, length, ltb}
 use Rattle.limits.specs.Limits.{transfers_limit}
 use Rattle.keys.specs.declared.Bound.{Bound}
-use Rattle.keys.specs.Bound.{below}
 use Rattle.format.specs.Place.{listed}
 use Rattle.message.specs.declared.ListView.{ListView}
 use Rattle.message.specs.declared.BodyView.TheVariants.{Delegate}

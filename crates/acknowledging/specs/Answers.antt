@@ -1,6 +1,6 @@
 -- What an Ack does to a host.
 -- Assumes nothing.
-use Rattle.std.specs.Prelude.{◌≡◌, Bool, true, false, ◌&&◌, cond, List, ℕ, ltb}
+use Rattle.std.specs.Prelude.{◌≡◌, Bool, true, false, ◌&&◌, List, ℕ, ltb}
 use Rattle.message.specs.Message.{Address}
 use Rattle.protocol.specs.Address.{among}
 use Rattle.protocol.specs.State.{Host}

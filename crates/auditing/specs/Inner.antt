@@ -1,6 +1,6 @@
 -- What the private function answers. A caller of the crate need not read this.
 -- Assumes nothing.
-use Rattle.std.specs.Prelude.{◌≡◌, Bool, true, false, ℕ, ◌≤◌, ◌<◌}
+use Rattle.std.specs.Prelude.{◌≡◌, Bool, true, false, ◌≤◌, ◌<◌}
 use Rattle.hosts.specs.declared.State.{State}
 use Rattle.hosts.specs.Keeps.{Sized}
 

@@ -1,13 +1,13 @@
 -- The laws of columns: what a turn of each loop does, and what stands at each place after an insertion and after a cut.
 -- Assumes nothing.
-use mathlib.Core.Path.{◌≡◌, refl, sym, ap, ◌∙◌}
-use mathlib.Core.Logic.{◌⊎◌, inl, inr, ⊎_elim}
+use mathlib.Core.Path.{◌≡◌, sym, ap, ◌∙◌}
+use mathlib.Core.Logic.{⊎_elim}
 use mathlib.Core.List.{List, [], ◌∷◌, ◌++◌, append_assoc}
-use Prim.Native.Nat.{ℕ, zero, suc, ◌+◌, ◌-◌, ◌≤◌, ◌<◌}
+use Prim.Native.Nat.{ℕ, suc, ◌+◌, ◌-◌, ◌≤◌, ◌<◌}
 use native.Mathlib.Omega.{arith}
 use Rattle.columns.proofs.Cases.{lt_or_ge}
 use lib.ListN.{length, take, drop, get_or, set, length-append, length-drop, get_or-append}
-use lib.Seq.{slice, take-suc-set, take-set-lt, drop-set-lt, append_snoc, slice-cons, slice_empty, set_split, take-take, take_all, drop-length, length-take-le, length-slice, get_or-append-add, get_or-take, get_or-drop, take-length}
+use lib.Seq.{slice, take-suc-set, take-set-lt, drop-set-lt, slice-cons, slice_empty, set_split, take-take, length-take-le, length-slice, get_or-append-add, get_or-take, get_or-drop}
 use lib.ListN.{take-append-drop}
 use Rattle.columns.specs.Column.{inserted, without, Rising, Splits}
 

@@ -4,14 +4,14 @@ use mathlib.Core.Path.{◌≡◌, refl, sym, ap, ◌∙◌, subst}
 use mathlib.Core.Bool.{Bool, true, false, cond, ◌&&◌, and-eq-true_iff}
 use mathlib.Core.List.{List, [], ◌∷◌, ◌++◌, append_assoc, append-nil}
 use mathlib.Core.Option.{Option, none, some, some-injective, none-ne-some}
-use Prim.Native.Nat.{ℕ, zero, suc, ◌+◌, ◌<◌}
+use Prim.Native.Nat.{ℕ, ◌+◌, ◌<◌}
 use native.Mathlib.Omega.{arith}
 use lib.ListN.{length, take, drop, length-append}
 use lib.Seq.{take_at, drop_at, drop-drop}
 use lib.Dec.{eqb}
 use borrow.Author.Tests.{ne_eqb}
 use Rattle.format.specs.Number.{width, numbers, digits, worth}
-use Rattle.format.specs.Format.{Format, number, string, maybe, pair, choice, entries, Entry, Of, counted, rows, listing, encode, Small, Good}
+use Rattle.format.specs.Format.{Format, number, string, maybe, pair, choice, entries, Entry, Of, counted, rows, encode, Small, Good}
 use Rattle.format.proofs.Numbers.{length_digits, worth_is}
 use Rattle.message.specs.Message.{Datagram, message, ack}
 use Rattle.message.specs.View.{bytes_of, body_of}
@@ -20,7 +20,7 @@ use Rattle.message.specs.declared.Parsed.{Parsed}
 use Rattle.message.specs.declared.Parsed.TheVariants.{Message, Ack, Invalid}
 use Rattle.message.specs.Table.{datagram, datagram_value, datagram_is, written, Valid}
 use Rattle.message.proofs.Laws.{same_datagram}
-use Rattle.decoding.specs.Decode.{same, good, bind, entry_and, list_of, value_of, taken, checked, read}
+use Rattle.decoding.specs.Decode.{same, good, list_of, value_of, checked, read}
 use Rattle.decoding.proofs.Decided.{same_true, same_refl, good_true, good_of}
 
 -- ---- a candidate is found where a value is written

@@ -2,10 +2,10 @@
 -- believed: it is taken only if it may be written and is written as those very bytes, and the laws `read_Some` and `Read-none` say that the
 -- function answers a message exactly if there is one.
 -- Assumes nothing.
-use Rattle.std.specs.Prelude.{Bool, true, false, cond, ◌&&◌, List, [], ◌∷◌, ℕ, zero, suc, ◌+◌, ◌≤◌, ◌<◌, length, take, drop, eqb, ltb, leb}
+use Rattle.std.specs.Prelude.{Bool, true, false, cond, ◌&&◌, List, [], ◌∷◌, ℕ, zero, suc, ◌+◌, length, take, drop, eqb, ltb, leb}
 use Rattle.std.proofs.Math.Option.{Option, none, some}
 use Rattle.format.specs.Number.{width, numbers, worth}
-use Rattle.format.specs.Format.{Format, number, string, maybe, pair, choice, entries, Entry, Of, listing, encode}
+use Rattle.format.specs.Format.{Format, number, string, maybe, pair, choice, entries, Entry, Of, listing}
 use Rattle.message.specs.Message.{Datagram}
 use Rattle.message.specs.Table.{datagram, datagram_value, datagram_is, written}
 

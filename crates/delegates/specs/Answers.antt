@@ -7,8 +7,6 @@ use Rattle.keys.specs.Bound.{below}
 use Rattle.memory.specs.Bytes.{part}
 use Rattle.format.specs.Format.{Entry}
 use Rattle.format.specs.Place.{listed, Rest}
-use Rattle.message.specs.declared.BodyView.TheVariants.{Delegate}
-use Rattle.delegation.specs.Map.{room}
 use Rattle.protocol.specs.Process.{any_long}
 use Rattle.hosts.specs.declared.State.{State}
 

@@ -1,8 +1,8 @@
 -- A list of entries as it is handed in, in columns: keys, and where in the bytes each value stands. It is the form that `ranges::pick` leaves and
 -- `entries::replace` takes.
 -- Assumes nothing.
-use Rattle.std.specs.Prelude.{◌≡◌, List, [], ◌∷◌, ℕ, zero, suc, ◌+◌, ◌≤◌, ◌<◌, length, get_or}
-use Rattle.memory.specs.Bytes.{placed, part}
+use Rattle.std.specs.Prelude.{◌≡◌, List, [], ◌∷◌, ℕ, zero, suc, ◌≤◌, length, get_or}
+use Rattle.memory.specs.Bytes.{part}
 use Rattle.strings.specs.Strings.{WellFormed}
 use Rattle.format.specs.Format.{Entry}
 use Rattle.message.specs.Message.{Datagram}

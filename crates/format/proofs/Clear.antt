@@ -3,12 +3,12 @@
 -- Assumes nothing.
 use mathlib.Core.Path.{◌≡◌, refl, sym, ap, ◌∙◌, path_j}
 use mathlib.Core.List.{List, [], ◌∷◌, ◌++◌, append_assoc, append-nil, head-eq_of_cons-eq, tail-eq_of_cons-eq}
-use mathlib.Core.Option.{Option, none, some}
-use Prim.Native.Nat.{ℕ, suc, ◌+◌, ◌<◌}
+use mathlib.Core.Option.{none, some}
+use Prim.Native.Nat.{ℕ, ◌+◌, ◌<◌}
 use native.Mathlib.Omega.{arith}
 use lib.ListN.{length, length-append}
 use Rattle.format.specs.Number.{width, numbers, digits}
-use Rattle.format.specs.Format.{Format, number, string, maybe, pair, choice, entries, Entry, Of, counted, rows, listing, encode, Small, Good}
+use Rattle.format.specs.Format.{Format, number, string, maybe, pair, choice, entries, Entry, Of, counted, rows, encode, Small, Good}
 use Rattle.format.proofs.Numbers.{length_digits, digits_same}
 
 -- fronts of one length are equal, and so is what follows them

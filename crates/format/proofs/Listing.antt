@@ -4,11 +4,11 @@ use mathlib.Core.Path.{◌≡◌, refl, sym, ap, ◌∙◌, subst}
 use mathlib.Core.List.{List, [], ◌∷◌, ◌++◌, append_assoc}
 use Prim.Native.Nat.{ℕ, zero, suc, ◌+◌, ◌-◌, ◌≤◌, ◌<◌}
 use native.Mathlib.Omega.{arith}
-use lib.ListN.{length, take, drop, length-append, length-drop}
+use lib.ListN.{length, take, drop, length-append}
 use lib.Seq.{drop-drop, drop_at, take_at}
 use Rattle.memory.specs.Bytes.{part}
 use Rattle.format.specs.Number.{width, numbers, digits, worth}
-use Rattle.format.specs.Format.{Format, number, entries, Entry, Of, counted, rows, listing, encode, Above, Small, Good}
+use Rattle.format.specs.Format.{number, entries, Entry, counted, rows, listing, encode, Above, Small, Good}
 use Rattle.format.specs.Place.{Stands, Lacks, listed, row, Rest, NoRest, Leads}
 use Rattle.format.proofs.Numbers.{length_digits, worth_is}
 use Rattle.format.proofs.Clear.{rows_clear}

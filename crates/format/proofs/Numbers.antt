@@ -7,7 +7,7 @@ use native.Mathlib.Nat.{pow-succ', mul_assoc, div-one, div-div-eq-div-mul}
 use native.Mathlib.Omega.{arith}
 use lib.ListN.{length, take, drop, get_or, length-drop}
 use lib.Seq.{drop-cons}
-use Rattle.format.specs.Number.{base, width, numbers, digits, worth}
+use Rattle.format.specs.Number.{base, digits, worth}
 
 pub length_digits : (k n : ℕ) → length (digits k n) ≡ k
 unfolding digits

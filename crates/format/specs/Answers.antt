@@ -5,7 +5,6 @@ use Rattle.memory.specs.Bytes.{part}
 use Rattle.format.specs.Number.{width}
 use Rattle.format.specs.Format.{number, string}
 use Rattle.format.specs.Place.{Stands, Lacks}
-use Rattle.format.specs.declared.Part.{Part}
 use Rattle.format.specs.declared.NumberRead.{NumberRead}
 use Rattle.format.specs.declared.NumberRead.TheVariants.{Is as IsNumber, Missing as NoNumber}
 use Rattle.format.specs.declared.TextRead.{TextRead}

@@ -1,7 +1,7 @@
 -- The grammar of messages as data (document 01, section 3): what a format is, which values it has, how a value is written, and which
 -- values are good, that is, may be written at all. One clause a constructor; a message's own format is a term of this type.
 -- Assumes nothing.
-use Rattle.std.specs.Prelude.{◌≡◌, List, [], ◌∷◌, ◌++◌, ℕ, suc, ◌≤◌, ◌<◌, length}
+use Rattle.std.specs.Prelude.{List, [], ◌∷◌, ◌++◌, ℕ, suc, ◌≤◌, ◌<◌, length}
 use Rattle.std.proofs.Math.Option.{Option, none, some}
 use Rattle.format.specs.Number.{width, numbers, digits}
 

@@ -1,7 +1,7 @@
 -- The laws by which a message is written: the front, then the fields of its body.
 -- Assumes nothing.
-use mathlib.Core.Path.{◌≡◌, refl, sym, ap, ◌∙◌, subst}
-use mathlib.Core.Bool.{Bool, true}
+use mathlib.Core.Path.{◌≡◌, sym, ap, ◌∙◌, subst}
+use mathlib.Core.Bool.{Bool}
 use mathlib.Core.List.{List, [], ◌∷◌, ◌++◌, append_assoc}
 use Prim.Native.Nat.{ℕ, ◌+◌, ◌≤◌, ◌<◌}
 use native.Mathlib.Omega.{arith}
@@ -14,11 +14,11 @@ use Rattle.format.specs.Format.{Format, Of, counted, encode, Good}
 use Rattle.format.proofs.Numbers.{length_digits}
 use Rattle.format.proofs.Clear.{length_counted}
 use Rattle.message.specs.Message.{Body, message}
-use Rattle.message.specs.Table.{bodies, fields, body, body_value, datagram_value, datagram, written, Valid}
+use Rattle.message.specs.Table.{bodies, fields, body, body_value, written, Valid}
 use Rattle.message.specs.Answers.{AfterWrite, WriteCases}
 use Rattle.message.specs.declared.Written.{Written}
 use Rattle.message.specs.declared.Written.TheVariants.{Bytes, NoRoom, Invalid}
-use Rattle.fronts.specs.Front.{front, StartCases, AfterStart, FieldsCases, AfterFields}
+use Rattle.fronts.specs.Front.{front, AfterStart, FieldsCases, AfterFields}
 use Rattle.fronts.specs.declared.Start.{Start}
 use Rattle.fronts.specs.declared.Start.TheVariants.{At, NoRoom as NoRoomAtAll, Invalid as NoAddress}
 

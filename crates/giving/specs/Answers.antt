@@ -6,7 +6,6 @@ use Rattle.keys.specs.declared.Bound.{Bound}
 use Rattle.records.specs.Table.{Table, removed}
 use Rattle.records.specs.Memory.{Keeps as KeepsTable}
 use Rattle.delegation.specs.Map.{Keeps as KeepsMap, Takes, updated, room}
-use Rattle.protocol.specs.Owners.{giving}
 use Rattle.hosts.specs.declared.State.{State}
 use Rattle.hosts.specs.declared.Done.{Done}
 use Rattle.hosts.specs.declared.Processed.TheVariants.{Handed}

@@ -1,10 +1,10 @@
 -- Each call is followed by one event of the world, or by none if it was refused.
 -- Assumes nothing.
 use mathlib.Core.Path.{◌≡◌, refl, sym, ap, ap₂, ◌∙◌, subst}
-use mathlib.Core.Bool.{Bool, true, false, cond, false≢true}
+use mathlib.Core.Bool.{Bool, true, false, cond}
 use mathlib.Core.List.{List, [], ◌∷◌, ◌++◌, append-nil}
-use mathlib.Core.Logic.{◌⊎◌, inl, inr, ⊎_elim}
-use mathlib.Core.Option.{Option, none, some, some-injective}
+use mathlib.Core.Logic.{⊎_elim}
+use mathlib.Core.Option.{Option, none, some}
 use Prim.Native.Nat.{ℕ, zero, suc, ◌≤◌, ◌<◌}
 use native.Mathlib.Omega.{arith}
 use lib.ListN.{length, take}
@@ -13,8 +13,8 @@ use Rattle.message.specs.Message.{Address}
 use Rattle.delivery.specs.Memory.{capacity}
 use Rattle.decoding.specs.Decode.{same}
 use Rattle.protocol.specs.Address.{among, at}
-use Rattle.protocol.specs.State.{Host, Letter}
-use Rattle.protocol.specs.Delivery.{Packet, Step, still, waits}
+use Rattle.protocol.specs.State.{Host}
+use Rattle.protocol.specs.Delivery.{Packet, Step}
 use Rattle.protocol.specs.Receive.{receive}
 use Rattle.protocol.specs.Process.{process}
 use Rattle.protocol.specs.Retransmit.{retransmit}
@@ -24,21 +24,17 @@ use Rattle.hosts.specs.Memory.{Memory, memory}
 use Rattle.hosts.specs.Limits.{fits_room}
 use Rattle.hosts.specs.Answers.{sends_of as processedSends}
 use Rattle.hosts.specs.Keeps.{Keeps}
-use Rattle.incoming.specs.declared.Received.{Received}
 use Rattle.incoming.specs.declared.Received.TheVariants.{Unfit}
 use Rattle.incoming.specs.Answers.{ack_length, sends_of as receivedSends, keeps_all}
-use Rattle.receiving.specs.Answers.{AfterReceive}
 use Rattle.repeating.specs.declared.Repeated.{Repeated}
 use Rattle.repeating.specs.declared.Repeated.TheVariants.{Places, NoRoom}
-use Rattle.repeating.specs.Answers.{AfterRepeat, packets}
-use Rattle.rounds.specs.declared.Turned.{Turned}
-use Rattle.rounds.specs.declared.Turned.TheVariants.{Unfit as TooShort}
+use Rattle.repeating.specs.Answers.{AfterRepeat}
 use Rattle.rounds.specs.Answers.{sends_of as turnedSends}
 use Rattle.arriving.specs.Answers.{arriving}
-use Rattle.turning.specs.Answers.{Lent, AfterTurn}
+use Rattle.turning.specs.Answers.{Lent}
 use Rattle.world.specs.World.{Sent, World}
 use Rattle.world.specs.Events.{Source, Move, receiving, processing, retransmitting, turning, Event, arrival, optional, sent_by, on_arrival, step_of, after, step, run}
-use Rattle.world.proofs.Changes.{at_cases, at_same_state}
+use Rattle.world.proofs.Changes.{at_same_state}
 use Rattle.homes.specs.Homes.{Home, Homes, Receives, Processes, Repeats, repeated_sends, Arrived, Turns, Call, ReceivesMaybe, Calls, Does}
 use Rattle.homes.specs.Homes.{receive as receives, process as processes, retransmit as retransmits, turn as turns}
 use Rattle.homes.specs.Theorem.{Kept, Follows}

@@ -1,12 +1,11 @@
 -- Hosts in lent memory follow a run of the world.
 -- Assumes nothing.
-use mathlib.Core.Path.{◌≡◌, refl, sym, ap, ◌∙◌, subst}
-use mathlib.Core.Bool.{Bool, true, false, cond, ◌&&◌, false≢true}
+use mathlib.Core.Path.{◌≡◌, refl, sym, ◌∙◌, subst}
+use mathlib.Core.Bool.{Bool, true, false, cond, ◌&&◌}
 use mathlib.Core.List.{List, [], ◌∷◌, ◌++◌}
-use mathlib.Core.Option.{Option, none, some, some-injective, none-ne-some}
+use mathlib.Core.Option.{none, some, some-injective, none-ne-some}
 use Prim.Native.Nat.{ℕ, zero, suc}
 use Rattle.message.specs.Message.{Address}
-use Rattle.decoding.specs.Decode.{same}
 use Rattle.decoding.proofs.Decided.{same_refl}
 use Rattle.protocol.specs.Address.{among}
 use Rattle.protocol.specs.State.{Host, fresh, start, different, short}
@@ -14,8 +13,8 @@ use Rattle.world.specs.World.{World, begin}
 use Rattle.world.specs.Events.{Event, step, run}
 use Rattle.world.proofs.Theorem.{theorem}
 use Rattle.world.proofs.Begin.{starts}
-use Rattle.homes.specs.Homes.{Home, Homes, Path}
-use Rattle.homes.specs.Theorem.{Kept, Started, Follows, Theorem}
+use Rattle.homes.specs.Homes.{Homes, Path}
+use Rattle.homes.specs.Theorem.{Kept, Follows, Theorem}
 use Rattle.homes.proofs.Following.{follows_one}
 
 run_append : (W : World) (l m : List Event) → run W (l ++ m) ≡ run (run W l) m
@@ -27,7 +26,7 @@ pub follows_all : {hosts : List Address} {R Q : Homes} {W : World} (n : ℕ) →
 follows_all {hosts} {R} {Q} {W} zero F e = ([], subst (λ (z : Homes). Follows hosts z W) e F)
 follows_all {hosts} {R} {Q} {W} (suc n) F p =
     let a = follows_one F p.1 in
-    let b = follows_all n a.1 p.2 in
+    let b = follows_all {R = p.0} {W = run W a.0} n a.1 p.2 in
     (a.0 ++ b.0, subst (λ (z : World). Follows hosts Q z) (sym (run_append W a.0 b.0)) b.1)
 
 -- a list with which a host has started is one of different addresses, and they are short

@@ -19,7 +19,6 @@ use Rattle.repeating.specs.declared.Repeated.TheVariants.{Places, NoRoom}
 use Rattle.repeating.specs.Answers.{AfterRepeat, packets}
 use Rattle.rounds.specs.declared.Ended.{Ended}
 use Rattle.rounds.specs.Answers.{sends_of as turnedSends}
-use Rattle.arriving.specs.Answers.{arriving}
 use Rattle.turning.specs.Answers.{AfterTurn}
 use Rattle.world.specs.World.{Sent}
 use Rattle.world.specs.Events.{Source, arrival, optional, sent_by}

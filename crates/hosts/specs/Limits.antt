@@ -2,7 +2,6 @@
 -- Assumes nothing.
 use Rattle.std.specs.Prelude.{◌≡◌, Bool, true, false, cond, List, [], ◌∷◌, ℕ, suc, ◌+◌, ◌≤◌, ◌<◌, length, ltb}
 use Rattle.std.proofs.Math.Option.{Option, none, some}
-use Rattle.keys.specs.declared.Bound.{Bound}
 use Rattle.message.specs.Message.{Address, Body, get, set, reply, redirect, shard, delegate}
 use Rattle.delegation.specs.Map.{Takes}
 use Rattle.decoding.specs.Decode.{same}

@@ -5,7 +5,6 @@ use Rattle.memory.specs.Bytes.{part}
 use Rattle.format.specs.Number.{width}
 use Rattle.format.specs.Format.{entries}
 use Rattle.format.specs.Place.{Stands, Lacks, listed, row, Rest, NoRest}
-use Rattle.format.specs.declared.Part.{Part}
 use Rattle.lists.specs.declared.RowRead.{RowRead}
 use Rattle.lists.specs.declared.RowRead.TheVariants.{Is as IsRow, Missing as NoRow}
 use Rattle.lists.specs.declared.RowsRead.{RowsRead}

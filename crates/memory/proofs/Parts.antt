@@ -1,11 +1,11 @@
 -- The laws of a byte string written over a part of a longer one.
 -- Assumes nothing.
 use mathlib.Core.Path.{◌≡◌, refl, sym, ap, ◌∙◌}
-use mathlib.Core.List.{List, [], ◌∷◌, ◌++◌, append_assoc, append-nil}
-use Prim.Native.Nat.{ℕ, ◌+◌, ◌-◌, ◌≤◌, ◌<◌}
+use mathlib.Core.List.{List, [], ◌++◌, append_assoc, append-nil}
+use Prim.Native.Nat.{ℕ, ◌+◌, ◌-◌, ◌≤◌}
 use native.Mathlib.Omega.{arith}
 use lib.ListN.{length, take, drop, get_or, length-append, length-drop, get_or-append}
-use lib.Seq.{paste, take-paste, drop-paste, take-add, drop-drop, take-length, length-take-le, take-take, drop-append-le, take-append-le, take_at, drop_at, take_all}
+use lib.Seq.{paste, take-paste, drop-paste, take-add, drop-drop, take-length, length-take-le, drop-append-le, take-append-le, take_at, drop_at}
 use Rattle.memory.specs.Bytes.{part, placed}
 
 -- a copy of m elements and then of the n after them is the copy of m + n

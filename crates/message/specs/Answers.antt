@@ -1,10 +1,7 @@
 -- What reading a datagram answers, and what writing one does.
 -- Assumes nothing.
-use Rattle.std.specs.Prelude.{◌≡◌, List, [], ◌∷◌, ◌++◌, ℕ, ◌<◌, length}
-use Rattle.limits.specs.Limits.{bytes_max}
+use Rattle.std.specs.Prelude.{◌≡◌, List, ℕ, ◌<◌, length}
 use Rattle.memory.specs.Bytes.{placed}
-use Rattle.format.specs.Number.{width, digits}
-use Rattle.format.specs.Format.{Format, Of, counted, encode, Good}
 use Rattle.message.specs.Message.{Datagram, message, ack}
 use Rattle.message.specs.Table.{written, Valid}
 use Rattle.message.specs.View.{bytes_of, body_of, PartIn, BodyIn}

@@ -1,7 +1,7 @@
 -- How messages are written: document 01's two tables, row by row. A body's byte is its row's place in `bodies`; a new kind is a row at the
 -- end. There is no row for the datagram with the byte 2, which is never sent, so bytes that start with it are no message.
 -- Assumes nothing.
-use Rattle.std.specs.Prelude.{◌≡◌, List, [], ◌∷◌, ℕ, zero, suc, length, get_or}
+use Rattle.std.specs.Prelude.{List, [], ◌∷◌, ℕ, zero, suc, length, get_or}
 use Rattle.std.proofs.Math.Option.{Option, none, some}
 use Rattle.limits.specs.Limits.{bytes_max}
 use Rattle.keys.specs.declared.Bound.{Bound}

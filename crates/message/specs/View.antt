@@ -1,6 +1,6 @@
 -- What a view says: it names the kind, the numbers, and where in the datagram's bytes each string and list stands.
 -- Assumes nothing.
-use Rattle.std.specs.Prelude.{◌≡◌, List, ℕ, ◌+◌, ◌≤◌, length}
+use Rattle.std.specs.Prelude.{List, ℕ, ◌+◌, ◌≤◌, length}
 use Rattle.std.proofs.Math.Option.{Option, none, some}
 use Rattle.memory.specs.Bytes.{part}
 use Rattle.format.specs.declared.Part.{Part}
@@ -8,7 +8,6 @@ use Rattle.format.specs.Place.{listed, Rest}
 use Rattle.message.specs.Message.{Body, get, set, reply, redirect, shard, delegate}
 use Rattle.message.specs.declared.ValueView.{ValueView}
 use Rattle.message.specs.declared.ValueView.TheVariants.{None, At}
-use Rattle.message.specs.declared.ListView.{ListView}
 use Rattle.message.specs.declared.BodyView.{BodyView}
 use Rattle.message.specs.declared.BodyView.TheVariants.{Get, Set, Reply, Redirect, Shard, Delegate}
 

@@ -17,7 +17,6 @@ use Rattle.message.specs.declared.Parsed.TheVariants.{Message, Ack, Invalid}
 use Rattle.message.specs.declared.BodyView.{BodyView}
 use Rattle.message.specs.View.{body_of}
 use Rattle.message.specs.Answers.{AfterParse}
-use Rattle.decoding.specs.Decode.{same}
 use Rattle.decoding.proofs.Laws.{answered, parse_reads}
 use Rattle.protocol.specs.State.{Host, Letter}
 use Rattle.protocol.specs.Delivery.{Step}

@@ -1,7 +1,6 @@
 -- What processing the message in the room answers (document 01, section 5).
 -- Assumes nothing.
 use Rattle.std.specs.Prelude.{◌≡◌, List, ℕ, length}
-use Rattle.message.specs.Message.{message}
 use Rattle.protocol.specs.State.{Host}
 use Rattle.protocol.specs.Delivery.{Step}
 use Rattle.protocol.specs.Process.{process}

@@ -1,9 +1,9 @@
 -- Scripts of some ten events, computed: the outcomes, the datagrams and the states are those that document 01 implies.
 -- Assumes nothing.
 use mathlib.Core.Path.{◌≡◌, refl}
-use mathlib.Core.Bool.{Bool, true, false}
+use mathlib.Core.Bool.{true, false}
 use mathlib.Core.List.{List, [], ◌∷◌, ◌++◌}
-use mathlib.Core.Option.{Option, none, some}
+use mathlib.Core.Option.{none, some}
 use Prim.Native.Nat.{ℕ, zero, suc, ◌-◌}
 use Rattle.keys.specs.declared.Bound.TheVariants.{Key, End}
 use Rattle.limits.specs.Limits.{value_max, entries_limit, transfers_limit}

@@ -1,6 +1,6 @@
 -- Addresses: byte strings, compared and looked up.
 -- Assumes nothing.
-use Rattle.std.specs.Prelude.{Bool, true, false, cond, ◌||◌, List, [], ◌∷◌, ◌++◌}
+use Rattle.std.specs.Prelude.{Bool, false, cond, ◌||◌, List, [], ◌∷◌, ◌++◌}
 use Rattle.decoding.specs.Decode.{same}
 use Rattle.message.specs.Message.{Address}
 

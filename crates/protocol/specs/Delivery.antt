@@ -1,7 +1,7 @@
 -- What a step answers, and how messages are numbered, sent and acknowledged (document 01, section 4).
 -- Assumes nothing.
-use Rattle.std.specs.Prelude.{Bool, true, false, cond, List, [], ◌∷◌, ◌++◌, ℕ, suc, ◌+◌, ◌-◌, length, drop, ltb}
-use Rattle.std.proofs.Math.Option.{Option, none, some}
+use Rattle.std.specs.Prelude.{Bool, List, [], ◌∷◌, ◌++◌, ℕ, suc, ◌+◌, ◌-◌, length, drop, ltb}
+use Rattle.std.proofs.Math.Option.{Option, none}
 use Rattle.format.specs.Number.{numbers}
 use Rattle.message.specs.Message.{Address, Body, message, ack}
 use Rattle.message.specs.Table.{written}

@@ -1,10 +1,10 @@
 -- Who owns what: ranges that were given away, the newest first. A key is whose the newest range with it says, and the first host's if there is
 -- none.
 -- Assumes nothing.
-use Rattle.std.specs.Prelude.{Bool, true, false, cond, ◌&&◌, ◌||◌, not, List, [], ◌∷◌, ◌++◌, ℕ}
+use Rattle.std.specs.Prelude.{Bool, true, cond, ◌&&◌, ◌||◌, not, List, [], ◌∷◌, ℕ}
 use Rattle.keys.specs.declared.Bound.{Bound}
 use Rattle.keys.specs.declared.Bound.TheVariants.{Key, End}
-use Rattle.keys.specs.Bound.{below, holds}
+use Rattle.keys.specs.Bound.{holds}
 use Rattle.decoding.specs.Decode.{same}
 use Rattle.message.specs.Message.{Address}
 

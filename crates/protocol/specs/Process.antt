@@ -1,7 +1,7 @@
 -- The message in the room is processed (document 01, section 5, row by row of its table). `fits` says whether the table has a place for the value
 -- of a Set; it is asked of nothing else.
 -- Assumes nothing.
-use Rattle.std.specs.Prelude.{Bool, true, false, cond, ◌&&◌, ◌||◌, not, List, [], ◌∷◌, ℕ, suc, ◌-◌, length, ltb, leb}
+use Rattle.std.specs.Prelude.{Bool, true, false, ◌||◌, not, List, [], ◌∷◌, ℕ, suc, ◌-◌, length, ltb, leb}
 use Rattle.std.proofs.Math.Option.{Option, none, some}
 use Rattle.limits.specs.Limits.{value_max, entries_limit, transfers_limit}
 use Rattle.keys.specs.declared.Bound.{Bound}
@@ -11,9 +11,9 @@ use Rattle.message.specs.Message.{Address, Body, get, set, reply, redirect, shar
 use Rattle.decoding.specs.Decode.{same}
 use Rattle.protocol.specs.Address.{among}
 use Rattle.protocol.specs.Records.{Value, look, setting, in_range, outside, replacing}
-use Rattle.protocol.specs.Owners.{Owners, owner_of, giving, whole}
+use Rattle.protocol.specs.Owners.{owner_of, giving, whole}
 use Rattle.protocol.specs.State.{Host, Letter, done}
-use Rattle.protocol.specs.Delivery.{Step, Outcome, Act, Request, got, stored, still, next, posted, packet, numbered, idle, stuck, replied, redirected, dropped, unnumbered, accepted, handed}
+use Rattle.protocol.specs.Delivery.{Step, Outcome, Request, got, stored, still, next, posted, packet, numbered, idle, stuck, replied, redirected, dropped, unnumbered, accepted, handed}
 
 -- ---- what a step does with the message
 

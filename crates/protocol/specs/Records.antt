@@ -1,9 +1,8 @@
 -- A host's records: the list of its entries, keys rising, so that a range can be counted and picked out. `look` is the partial map that it
 -- stands for.
 -- Assumes nothing.
-use Rattle.std.specs.Prelude.{Bool, true, false, cond, not, List, [], ◌∷◌, ◌++◌, ℕ, ◌≤◌, length, eqb, ltb}
+use Rattle.std.specs.Prelude.{Bool, cond, not, List, [], ◌∷◌, ℕ, eqb, ltb}
 use Rattle.std.proofs.Math.Option.{Option, none, some}
-use Rattle.limits.specs.Limits.{value_max}
 use Rattle.keys.specs.declared.Bound.{Bound}
 use Rattle.keys.specs.Bound.{holds}
 use Rattle.format.specs.Format.{Entry}

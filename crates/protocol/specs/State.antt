@@ -1,6 +1,6 @@
 -- The host: what it knows, and how it starts (document 01, sections 4 to 6).
 -- Assumes nothing.
-use Rattle.std.specs.Prelude.{Bool, true, false, cond, ◌&&◌, not, List, [], ◌∷◌, ◌++◌, ℕ, length, ltb}
+use Rattle.std.specs.Prelude.{Bool, true, cond, ◌&&◌, not, List, [], ◌∷◌, ℕ, length, ltb}
 use Rattle.std.proofs.Math.Option.{Option, none, some}
 use Rattle.limits.specs.Limits.{bytes_max}
 use Rattle.format.specs.Format.{Entry}

@@ -20,11 +20,11 @@ use mathlib.Core.List.{List}
 use mathlib.Core.Option.{none, some, some-injective}
 use Prim.Native.Nat.{ℕ, ◌*◌, ◌≤◌, ◌<◌}
 use native.Mathlib.Omega.{arith}
-use lib.ListN.{length, get_or, take, drop, length-take}
+use lib.ListN.{length, get_or, drop, length-take}
 use Rattle.keys.specs.declared.Bound.{Bound}
 use Rattle.keys.specs.Bound.{holds}
 use Rattle.limits.specs.Limits.{value_max}
-use Rattle.records.specs.Table.{Value, Table, removed, within, replaced, Listed, Size}
+use Rattle.records.specs.Table.{Value, Table, removed, within, replaced, Size}
 use Rattle.records.specs.Memory.{value_at, Keeps}
 use Rattle.records.proofs.Tables.{dropped_true, dropped_false, only_true, only_false, listed_at, listed_cong}
 use Rattle.records.proofs.Stores.{storing_other, storing_at}

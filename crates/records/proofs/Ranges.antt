@@ -1,11 +1,10 @@
 -- The keys of a range stand from the first place that is not below lo up to the first that is not below hi.
 -- Assumes nothing.
-use mathlib.Core.Path.{◌≡◌, refl, sym, ap, ◌∙◌}
+use mathlib.Core.Path.{◌≡◌, refl}
 use mathlib.Core.Logic.{⊎_elim}
 use mathlib.Core.Bool.{Bool, true, false}
 use mathlib.Core.List.{List}
-use mathlib.Core.Option.{none}
-use Prim.Native.Nat.{ℕ, ◌+◌, ◌-◌, ◌≤◌, ◌<◌}
+use Prim.Native.Nat.{ℕ, ◌+◌, ◌≤◌, ◌<◌}
 use native.Mathlib.Omega.{arith}
 use lib.ListN.{length, get_or}
 use Rattle.keys.specs.declared.Bound.{Bound}
@@ -14,7 +13,7 @@ use Rattle.keys.specs.Bound.{below, holds}
 use Rattle.columns.specs.Column.{Rising}
 use Rattle.searches.specs.Search.{Before}
 use Rattle.columns.proofs.Cases.{lt_or_ge}
-use Rattle.records.specs.Table.{Value, Table, dropped, only, removed, within, Listed, Size}
+use Rattle.records.specs.Table.{Value, Table, dropped, only, Listed}
 use Rattle.records.specs.Memory.{value_at, Keeps}
 use Rattle.records.proofs.Tables.{listed_cong, untouched_listed, window_listed}
 

@@ -1,15 +1,15 @@
 -- Laws of the memory that keeps a table: the permutation of slots, the bytes in a slot, and from them that memory keeps the changed table
 -- after an entry was added, overwritten or taken out.
 -- Assumes nothing.
-use mathlib.Core.Path.{◌≡◌, refl, sym, ap, ap₂, ◌∙◌}
-use mathlib.Core.Logic.{◌⊎◌, inl, inr, ⊎_elim}
+use mathlib.Core.Path.{◌≡◌, refl, sym, ap, ◌∙◌}
+use mathlib.Core.Logic.{⊎_elim}
 use mathlib.Core.Bool.{Bool, true, false, cond}
 use mathlib.Core.List.{List}
-use mathlib.Core.Option.{none, some}
+use mathlib.Core.Option.{some}
 use Prim.Native.Nat.{ℕ, suc, ◌+◌, ◌-◌, ◌*◌, ◌≤◌, ◌<◌}
 use native.Mathlib.Omega.{arith}
 use lib.Dec.{eqb, ltb}
-use lib.ListN.{length, get_or, set, take, drop, length-set}
+use lib.ListN.{length, get_or, set, length-set}
 use lib.Seq.{get_or-set_same, get_or-set_other}
 use borrow.Author.Tests.{eq-eqb, ne_eqb, lt-ltb, le-ltb}
 use Rattle.limits.specs.Limits.{value_max}
@@ -18,8 +18,8 @@ use Rattle.columns.proofs.Cases.{lt_or_ge, eq_or_ne}
 use Rattle.columns.proofs.Columns.{length_inserted, inserted_before, inserted_at, inserted_after, inserted_past, length_without, cut_before, cut_after}
 use Rattle.memory.proofs.Parts.{length_placed, placed_in, placed_before, placed_after}
 use Rattle.memory.specs.Bytes.{placed, part}
-use Rattle.records.specs.Table.{Value, Table, put, dropped, Listed}
-use Rattle.records.specs.Memory.{in_slot, value_at, Shape, Slots, Keeps}
+use Rattle.records.specs.Table.{Value, Table, put, dropped}
+use Rattle.records.specs.Memory.{in_slot, value_at, Slots, Keeps}
 use Rattle.records.specs.Inner.{Room}
 use Rattle.records.proofs.Tables.{insert_listed, overwrite_listed, span_listed}
 

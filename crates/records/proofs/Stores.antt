@@ -1,9 +1,9 @@
 -- Laws of a list of entries that is stored one after the other: what is stored stays, and how many entries there are then.
 -- Assumes nothing.
-use mathlib.Core.Path.{◌≡◌, refl, sym, ap, ◌∙◌}
+use mathlib.Core.Path.{◌≡◌, refl, ap, ◌∙◌}
 use mathlib.Core.Logic.{◌⊎◌, inl, inr, ⊎_elim}
 use mathlib.Core.Option.{none, some}
-use Prim.Native.Nat.{ℕ, zero, suc, ◌+◌, ◌≤◌, ◌<◌}
+use Prim.Native.Nat.{ℕ, zero, suc, ◌≤◌, ◌<◌}
 use native.Mathlib.Omega.{arith}
 use Rattle.columns.proofs.Cases.{lt_or_ge, eq_or_ne}
 use Rattle.records.specs.Table.{Value, Table, put, storing, Size}

@@ -3,7 +3,6 @@
 use Rattle.std.specs.Prelude.{◌≡◌, ◌⊎◌, List, ℕ, ◌-◌, length, ltb}
 use Rattle.std.proofs.Math.Option.{none}
 use Rattle.limits.specs.Limits.{transfers_limit}
-use Rattle.message.specs.Message.{message}
 use Rattle.message.specs.declared.BodyView.{BodyView}
 use Rattle.message.specs.View.{body_of, BodyIn}
 use Rattle.protocol.specs.State.{Host, Letter}

@@ -14,12 +14,11 @@ use Rattle.peers.specs.Names.{Keeps as KeepsNames}
 use Rattle.peers.specs.declared.Peer.{Peer}
 use Rattle.peers.specs.declared.Peer.TheVariants.{Is, Unknown}
 use Rattle.protocol.specs.Records.{in_range}
-use Rattle.protocol.specs.Owners.{giving, whole}
+use Rattle.protocol.specs.Owners.{whole}
 use Rattle.protocol.specs.State.{Host}
 use Rattle.hosts.specs.declared.State.{State}
 use Rattle.hosts.specs.Memory.{memory}
 use Rattle.hosts.specs.Keeps.{Core}
-use Rattle.message.specs.declared.BodyView.TheVariants.{Shard}
 
 -- the number of a host that has the address and is another, or there is none
 abbrev pub RecipientCases : Peer → (name_lens names : List ℕ) → State → List ℕ → Part → Type 0

@@ -12,7 +12,7 @@ use Rattle.protocol.specs.Delivery.{Step}
 use Rattle.protocol.specs.Turn.{kind, ended, by_kind}
 use Rattle.hosts.specs.declared.State.{State}
 use Rattle.hosts.specs.declared.Processed.{Processed}
-use Rattle.hosts.specs.Memory.{Memory, memory}
+use Rattle.hosts.specs.Memory.{Memory}
 use Rattle.hosts.specs.Limits.{fits_room}
 use Rattle.hosts.specs.declared.Done.{Done}
 use Rattle.processing.specs.Answers.{Processes, AfterProcess}

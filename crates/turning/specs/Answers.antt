@@ -6,10 +6,10 @@ use Rattle.delivery.specs.Memory.{capacity}
 use Rattle.protocol.specs.State.{Host}
 use Rattle.protocol.specs.Turn.{kind, turn}
 use Rattle.hosts.specs.declared.State.{State}
-use Rattle.hosts.specs.Memory.{Memory, memory}
+use Rattle.hosts.specs.Memory.{Memory}
 use Rattle.hosts.specs.Limits.{fits_room}
 use Rattle.hosts.specs.Keeps.{limits_of, Keeps}
-use Rattle.incoming.specs.Answers.{ack_length, Tested, outcome_of as received}
+use Rattle.incoming.specs.Answers.{ack_length, Tested}
 use Rattle.rounds.specs.declared.Turned.TheVariants.{Unfit}
 use Rattle.rounds.specs.declared.Ended.{Ended}
 use Rattle.rounds.specs.Answers.{refuses, Turns}

@@ -1,7 +1,7 @@
 -- Bounds and keys with their order have the laws of upstream's keys.
 -- Assumes nothing.
 use mathlib.Core.Path.{◌≡◌, ap, ◌∙◌, sym, transport}
-use mathlib.Core.Logic.{◌⊎◌, inl, inr, ⊎_elim, ◌↔◌}
+use mathlib.Core.Logic.{inl, inr}
 use Prim.Native.Nat.{ℕ}
 use Rattle.keys.specs.Bound.{order}
 use Rattle.keys.specs.declared.Bound.{Bound}

@@ -12,7 +12,7 @@ use Rattle.protocol.specs.Address.{among}
 use Rattle.protocol.specs.Delivery.{Packet as Handed}
 use Rattle.world.specs.Single.{Among}
 use Rattle.upstream.specs.Messages.{SingleMessage, message, ack, invalid, Packet, Empty, Only}
-use Rattle.upstream.specs.Hosts.{sends, sent_list, sent, AllSends, NoInvalidSends}
+use Rattle.upstream.specs.Hosts.{sent_list, sent, AllSends, NoInvalidSends}
 use Rattle.upstream.specs.View.{view_datagram, CarriesAll, sending}
 
 -- ---- on a list
@@ -26,6 +26,7 @@ among_on a (b ∷ l) e = go (same a b) refl e (among_on a l)
     go false q w f = inr (f w)
 
 pub on_among : (a : Address) (l : List Address) → Among a l → among a l ≡ true
+on_among a [] o = elim o [ ]
 on_among a (b ∷ l) (inl e) = subst (λ (z : Address). same a z || among a l ≡ true) e (rw (same_refl a) refl)
 on_among a (b ∷ l) (inr o) = go (same a b) (on_among a l o)
   where

@@ -24,14 +24,14 @@ use Rattle.protocol.specs.Address.{among}
 use Rattle.protocol.specs.Records.{Value, look, setting, in_range, outside}
 use Rattle.protocol.specs.Owners.{Owners, owner_of, giving, whole}
 use Rattle.protocol.specs.State.{Host, Letter, done, short}
-use Rattle.protocol.specs.Delivery.{Step, Outcome, got, still, next, posted, packet, numbered, stuck, dropped, unnumbered, replied, redirected, handed}
+use Rattle.protocol.specs.Delivery.{Step, Outcome, got, still, next, posted, numbered, stuck, dropped, unnumbered, replied, redirected, handed}
 use Rattle.protocol.specs.Process.{free, discarded, answering, on_get, long, keeping, on_set, any_long, unfit, on_delegate, refused, handing, on_shard, on_body, on_letter, process}
 use Rattle.protocol.proofs.Addresses.{either, neither, short_among}
 use Rattle.protocol.proofs.Entries.{above_kept, look_in_range, look_outside, look_replacing, look_setting, or_else}
 use Rattle.protocol.proofs.Whole.{whole_all, all_whole}
 use Rattle.upstream.specs.Messages.{Len, max_val_len, ValidOptional, reply, redirect, delegate, message, Packet}
 use Rattle.upstream.specs.Delivery.{SendSingle}
-use Rattle.upstream.specs.Hosts.{AppRequest, app_get, app_set, sent, preferred, extract, update, AllOf, Answers, MustReject, ShouldProcess, ProcessMessage, ProcessRoom, IgnoresDelegate, freed, Next, process_packet, ignore_nonsense}
+use Rattle.upstream.specs.Hosts.{AppRequest, app_get, app_set, sent, preferred, extract, update, AllOf, Answers, MustReject, ShouldProcess, ProcessMessage, ProcessRoom, IgnoresDelegate, Next, process_packet, ignore_nonsense}
 use Rattle.upstream.specs.View.{view_body, CarriesAll, sending, view_delivery, view_room, view, recorded}
 use Rattle.upstream.proofs.Lists.{among_on, on_among, all_sends, one_sent, sound}
 use Rattle.upstream.proofs.Views.{seqno_is, acks_posted}

@@ -7,7 +7,7 @@ use Prim.Native.Nat.{ℕ, ◌+◌, ◌-◌, ◌≤◌}
 use native.Mathlib.Omega.{arith}
 use lib.ListN.{length, take, drop, length-append}
 use lib.Seq.{slice, take_at, take-take, length-take-le, length-slice}
-use Rattle.columns.specs.Column.{without, Cut}
+use Rattle.columns.specs.Column.{Cut}
 
 -- vec_erase: final(v) == old(v).subrange(0, start) + old(v).subrange(end, old(v).len()), where v is the first n elements and start, end are i, j
 pub erase_implied : (c c' : List ℕ) (n i j : ℕ) (r : Bool) → Cut c n i j r c' → i ≤ j → j ≤ n → n ≤ length c

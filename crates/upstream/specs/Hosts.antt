@@ -6,7 +6,6 @@ use Rattle.std.proofs.Math.Option.{Option, none, some}
 use Rattle.limits.specs.Limits.{bytes_max}
 use Rattle.keys.specs.Bound.{holds}
 use Rattle.message.specs.Message.{Address}
-use Rattle.protocol.specs.Address.{at}
 use Rattle.protocol.specs.Records.{Value}
 use Rattle.world.specs.Single.{Among}
 use Rattle.upstream.specs.Messages.{Range, Contains, IsEmpty, Hashtable, Len, max_hashtable_size, ValidValue, ValidOptional, max_delegations, Message, get_request, set_request, reply, redirect, shard, delegate, SingleMessage, message, ack, invalid, Packet, Packets, Empty, Only, SameSet}

@@ -11,7 +11,6 @@ use Rattle.message.specs.Message.{Address, Body}
 use Rattle.protocol.specs.Address.{among}
 use Rattle.protocol.specs.Owners.{Owners, owner_of, giving}
 use Rattle.protocol.specs.State.{different}
-use Rattle.world.specs.Claims.{moves, says}
 use Rattle.world.proofs.Sums.{sum, sum2, sum_change, sum2_change}
 use Rattle.world.proofs.Invariant.{States, way, own, moving, ways, total}
 use Rattle.world.proofs.Changes.{cases}

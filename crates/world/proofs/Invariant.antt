@@ -15,7 +15,7 @@ use Rattle.message.specs.Table.{written, Valid}
 use Rattle.protocol.specs.Address.{among}
 use Rattle.protocol.specs.Records.{look}
 use Rattle.protocol.specs.Owners.{owner_of}
-use Rattle.protocol.specs.State.{Host, Letter, short}
+use Rattle.protocol.specs.State.{Host, Letter}
 use Rattle.world.specs.World.{Sent, Executed, World}
 use Rattle.world.specs.Events.{nth}
 use Rattle.world.specs.Claims.{mine, in_room, moves, says}

@@ -9,11 +9,10 @@ use native.Mathlib.Omega.{arith}
 use lib.ListN.{length, take}
 use Rattle.limits.specs.Limits.{bytes_max}
 use Rattle.message.specs.Message.{Address, Body, Datagram, message, ack}
-use Rattle.message.specs.Table.{written, Valid}
+use Rattle.message.specs.Table.{Valid}
 use Rattle.decoding.specs.Decode.{read}
 use Rattle.decoding.proofs.Laws.{read_written, read_some}
 use Rattle.protocol.specs.Address.{among, at}
-use Rattle.protocol.specs.State.{short}
 use Rattle.protocol.specs.Delivery.{Packet, Outcome, Step}
 use Rattle.world.specs.World.{Sent, Executed, World}
 use Rattle.world.specs.Events.{nth, Trace, passes, trace_of, moved_by, moved, made_after, carried_after, executed_after, sent_by, after}

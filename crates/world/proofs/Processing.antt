@@ -16,7 +16,7 @@ use Rattle.keys.specs.Bound.{below, holds}
 use Rattle.format.specs.Number.{numbers}
 use Rattle.format.specs.Format.{Entry, Above, Good, maybe}
 use Rattle.message.specs.Message.{Address, Body, get, set, reply, redirect, shard, delegate, message}
-use Rattle.message.specs.Table.{address, value, written, Valid}
+use Rattle.message.specs.Table.{address, value, Valid}
 use Rattle.decoding.specs.Decode.{same}
 use Rattle.decoding.proofs.Decided.{same_refl}
 use Rattle.protocol.specs.Address.{among, at}

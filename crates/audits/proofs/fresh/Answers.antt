@@ -1,7 +1,6 @@
 -- `audits::fresh` meets its contract. The loop's invariant: no place passed has the slot. The measure is what is left.
 -- Assumes nothing.
 use mathlib.Core.Bool.{true≢false, false≢true}
-use Prim.Native.Nat.{◌-◌}
 use native.Mathlib.Omega.{arith}
 use borrow.Author.Count.{below_none, below_more}
 use Rattle.audits.proofs.fresh.Goals as goal

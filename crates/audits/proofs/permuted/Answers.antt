@@ -3,7 +3,6 @@
 use mathlib.Core.Path.{sym}
 use mathlib.Core.Logic.{⊎_elim}
 use mathlib.Core.Bool.{true≢false, false≢true}
-use Prim.Native.Nat.{◌-◌}
 use native.Mathlib.Omega.{arith}
 use borrow.Author.Count.{below_none, below_more}
 use Rattle.columns.proofs.Cases.{eq_or_ne, lt_or_ge}

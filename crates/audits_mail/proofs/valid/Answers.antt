@@ -1,6 +1,5 @@
 -- `audits_mail::valid` meets its contract.
 -- Assumes nothing.
-use Prim.Native.Nat.{◌-◌}
 use native.Mathlib.Omega.{arith}
 use mathlib.Core.Bool.{true≢false}
 use native.Mathlib.Nat.{le-div_iff_mul-le}

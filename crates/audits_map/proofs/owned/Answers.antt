@@ -1,6 +1,5 @@
 -- `audits_map::owned` meets its contract.
 -- Assumes nothing.
-use Prim.Native.Nat.{◌-◌}
 use native.Mathlib.Omega.{arith}
 use mathlib.Core.Bool.{true≢false, false≢true}
 use borrow.Author.Count.{below_none, below_more}

@@ -1,6 +1,5 @@
 -- `audits_names::valid` meets its contract.
 -- Assumes nothing.
-use Prim.Native.Nat.{◌-◌}
 use native.Mathlib.Omega.{arith}
 use native.Mathlib.Nat.{le-div_iff_mul-le}
 use Rattle.peers.proofs.Laws.{place_fits}

@@ -1,6 +1,5 @@
 -- `audits_post::all_told` meets its contract.
 -- Assumes nothing.
-use Prim.Native.Nat.{◌-◌}
 use native.Mathlib.Omega.{arith}
 use borrow.Author.Count.{below_none, below_more}
 use Rattle.audits_post.proofs.Laws.{held, failed}

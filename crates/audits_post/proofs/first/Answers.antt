@@ -1,6 +1,5 @@
 -- `audits_post::first` meets its contract.
 -- Assumes nothing.
-use Prim.Native.Nat.{◌-◌}
 use native.Mathlib.Omega.{arith}
 use borrow.Author.Count.{below_more}
 use Rattle.audits_post.proofs.first.Goals as goal

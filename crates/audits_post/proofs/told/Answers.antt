@@ -1,6 +1,6 @@
 -- `audits_post::told` meets its contract.
 -- Assumes nothing.
-use Prim.Native.Nat.{◌+◌, ◌-◌, ◌*◌}
+use Prim.Native.Nat.{◌+◌, ◌*◌}
 use native.Mathlib.Omega.{arith}
 use Rattle.audits_post.proofs.Laws.{held, failed, lacking, found}
 use Rattle.audits_post.proofs.told.Goals as goal

@@ -1,7 +1,6 @@
 -- `bodies::delegate` meets its contract.
 -- Assumes nothing.
 use mathlib.Core.Path.{refl}
-use Prim.Native.Nat.{◌-◌}
 use native.Mathlib.Omega.{arith}
 use Rattle.lists.proofs.Answers.{list_as}
 use Rattle.format.proofs.Reading.{pair_found, pair_first, pair_second}

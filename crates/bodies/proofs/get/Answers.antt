@@ -1,7 +1,6 @@
 -- `bodies::get` meets its contract.
 -- Assumes nothing.
 use mathlib.Core.Path.{refl}
-use Prim.Native.Nat.{◌-◌}
 use native.Mathlib.Omega.{arith}
 use Rattle.format.proofs.Answers.{number_as}
 use Rattle.bodies.proofs.get.Goals as goal

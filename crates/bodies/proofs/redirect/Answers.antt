@@ -1,7 +1,6 @@
 -- `bodies::redirect` meets its contract.
 -- Assumes nothing.
 use mathlib.Core.Path.{refl}
-use Prim.Native.Nat.{◌-◌}
 use native.Mathlib.Omega.{arith}
 use Rattle.format.proofs.Answers.{number_as, text_as}
 use Rattle.format.proofs.Reading.{pair_found, pair_first, pair_second}

@@ -1,7 +1,6 @@
 -- `bodies::reply` meets its contract.
 -- Assumes nothing.
 use mathlib.Core.Path.{refl}
-use Prim.Native.Nat.{◌-◌}
 use Rattle.values.proofs.Answers.{keyed_as}
 use Rattle.bodies.proofs.reply.Goals as goal
 

@@ -1,7 +1,6 @@
 -- `bodies::set` meets its contract.
 -- Assumes nothing.
 use mathlib.Core.Path.{refl}
-use Prim.Native.Nat.{◌-◌}
 use Rattle.values.proofs.Answers.{keyed_as}
 use Rattle.bodies.proofs.set.Goals as goal
 

@@ -3,8 +3,7 @@
 use mathlib.Core.Path.{sym, subst}
 use Rattle.delivery.specs.Memory.{capacity}
 use mathlib.Core.List.{List}
-use mathlib.Core.Logic.{⊎_elim}
-use Prim.Native.Nat.{ℕ, ◌+◌, ◌-◌, ◌<◌}
+use Prim.Native.Nat.{ℕ, ◌+◌, ◌<◌}
 use native.Mathlib.Omega.{arith}
 use Rattle.clearing.proofs.Laws.{Passed, passed_none, passed_all, passed_kept, passed_freed}
 use Rattle.clearing.proofs.clear.Goals as goal

@@ -1,7 +1,7 @@
 -- `composing::get` meets its contract.
 -- Assumes nothing.
 use mathlib.Core.Path.{refl, sym}
-use Prim.Native.Nat.{◌-◌, ◌<◌}
+use Prim.Native.Nat.{◌<◌}
 use native.Mathlib.Omega.{arith}
 use Rattle.format.specs.Number.{width, numbers}
 use Rattle.format.specs.Format.{number}

@@ -1,6 +1,5 @@
 -- `confirming::free` meets its contract. The loop's invariant: the places passed are not the one, and nothing has changed. The measure is what is left.
 -- Assumes nothing.
-use Prim.Native.Nat.{◌-◌}
 use native.Mathlib.Omega.{arith}
 use Rattle.confirming.proofs.Laws.{sought_none, sought_next, sought_found, sought_all}
 use Rattle.confirming.proofs.free.Goals as goal

@@ -1,6 +1,5 @@
 -- `confirming::release` meets its contract.
 -- Assumes nothing.
-use Prim.Native.Nat.{◌-◌}
 use native.Mathlib.Omega.{arith}
 use Rattle.confirming.proofs.Laws.{freed_clears}
 use Rattle.confirming.proofs.release.Goals as goal

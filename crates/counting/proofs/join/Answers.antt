@@ -1,7 +1,7 @@
 -- `counting::join` meets its contract.
 -- Assumes nothing.
 use mathlib.Core.Path.{◌≡◌, refl, sym, ◌∙◌}
-use Prim.Native.Nat.{◌*◌, ◌+◌, ◌-◌, ◌<◌}
+use Prim.Native.Nat.{◌*◌, ◌+◌, ◌<◌}
 use native.Mathlib.Omega.{arith}
 use lib.ListN.{length, get_or, set, length-set}
 use mathlib.Core.Bool.{false≢true}

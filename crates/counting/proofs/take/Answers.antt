@@ -1,6 +1,5 @@
 -- `counting::take` meets its contract.
 -- Assumes nothing.
-use Prim.Native.Nat.{◌-◌}
 use native.Mathlib.Omega.{arith}
 use Rattle.delivery.proofs.Laws.{keeps_took}
 use Rattle.counting.proofs.take.Goals as goal

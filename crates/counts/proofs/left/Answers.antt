@@ -1,7 +1,6 @@
 -- `counts::left` meets its contract. The loop's invariant: so many entries there are when the first t are stored. The measure is what is left.
 -- Assumes nothing.
 use mathlib.Core.Path.{◌≡◌}
-use Prim.Native.Nat.{◌-◌}
 use native.Mathlib.Omega.{arith}
 use native.Mathlib.Numerals.{add-one}
 use Rattle.records.proofs.Slotted.{in_keys}

@@ -1,7 +1,6 @@
 -- `delegation::upto` meets its contract. The loop's invariant: the bounds passed lie at or below the key. The measure is what is left. Where it stops at a bound above
 -- the key, those after that one lie above the key too, if the column rises.
 -- Assumes nothing.
-use Prim.Native.Nat.{◌-◌}
 use native.Mathlib.Omega.{arith}
 use borrow.Author.Count.{below_none, below_more}
 use Rattle.columns.proofs.Columns.{half_high}

@@ -1,6 +1,5 @@
 -- `delivery::counts_of` meets its contract.
 -- Assumes nothing.
-use Prim.Native.Nat.{◌-◌}
 use native.Mathlib.Omega.{arith}
 use Rattle.delivery.proofs.counts_of.Goals as goal
 

@@ -1,7 +1,7 @@
 -- `entries::store` meets its contract. The loop's invariant: the first t entries are stored. Each finds a place since all do. The measure is what is left.
 -- Assumes nothing.
 use mathlib.Core.Path.{◌≡◌, refl, ◌∙◌}
-use Prim.Native.Nat.{◌-◌, ◌<◌}
+use Prim.Native.Nat.{◌<◌}
 use native.Mathlib.Omega.{arith}
 use native.Mathlib.Numerals.{add-one}
 use lib.ListN.{length, get_or}

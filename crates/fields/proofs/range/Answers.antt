@@ -1,6 +1,5 @@
 -- `fields::range` meets its contract.
 -- Assumes nothing.
-use Prim.Native.Nat.{◌-◌}
 use Rattle.fields.proofs.Answers.{bound_as}
 use Rattle.format.proofs.Reading.{pair_found, pair_first, pair_second}
 use Rattle.fields.proofs.range.Goals as goal

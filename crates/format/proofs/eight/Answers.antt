@@ -1,7 +1,6 @@
 -- `format::eight` meets its contract.
 -- Assumes nothing.
 use mathlib.Core.Path.{refl}
-use Prim.Native.Nat.{◌-◌}
 use Rattle.format.proofs.Numbers.{worth_twice}
 use Rattle.format.proofs.eight.Goals as goal
 

@@ -1,7 +1,7 @@
 -- `format::four` meets its contract.
 -- Assumes nothing.
 use mathlib.Core.Path.{refl}
-use Prim.Native.Nat.{ℕ, ◌+◌, ◌-◌, ◌<◌, ◌*◌, ◌^◌}
+use Prim.Native.Nat.{ℕ, ◌+◌, ◌<◌, ◌*◌, ◌^◌}
 use native.Mathlib.Omega.{arith}
 use Rattle.format.proofs.Numbers.{worth_twice}
 use Rattle.format.proofs.four.Goals as goal

@@ -1,6 +1,5 @@
 -- `format::number` meets its contract.
 -- Assumes nothing.
-use Prim.Native.Nat.{◌-◌}
 use native.Mathlib.Omega.{arith}
 use Rattle.format.proofs.Reading.{number_found, number_short}
 use Rattle.format.proofs.number.Goals as goal

@@ -1,6 +1,5 @@
 -- `format::short_text` meets its contract.
 -- Assumes nothing.
-use Prim.Native.Nat.{◌-◌}
 use Rattle.format.proofs.Answers.{text_as}
 use Rattle.format.proofs.Reading.{string_limited, string_over, string_unlimited}
 use Rattle.format.proofs.short_text.Goals as goal

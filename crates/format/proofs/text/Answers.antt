@@ -1,7 +1,6 @@
 -- `format::text` meets its contract.
 -- Assumes nothing.
 use mathlib.Core.Path.{refl}
-use Prim.Native.Nat.{◌-◌}
 use native.Mathlib.Omega.{arith}
 use Rattle.format.proofs.Answers.{number_as}
 use Rattle.format.proofs.Reading.{string_found, string_unnumbered, string_short}

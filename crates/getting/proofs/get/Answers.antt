@@ -1,6 +1,5 @@
 -- `getting::get` meets its contract.
 -- Assumes nothing.
-use Prim.Native.Nat.{◌-◌}
 use Rattle.getting.proofs.Laws.{pick_as, picks, runs_out, no_place}
 use Rattle.getting.proofs.get.Goals as goal
 

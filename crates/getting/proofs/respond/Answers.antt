@@ -1,6 +1,5 @@
 -- `getting::respond` meets its contract.
 -- Assumes nothing.
-use Prim.Native.Nat.{◌-◌}
 use native.Mathlib.Omega.{arith}
 use Rattle.getting.proofs.Laws.{refers, replies_as}
 use Rattle.getting.proofs.respond.Goals as goal

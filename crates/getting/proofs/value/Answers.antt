@@ -1,6 +1,5 @@
 -- `getting::value` meets its contract.
 -- Assumes nothing.
-use Prim.Native.Nat.{◌-◌}
 use native.Mathlib.Omega.{arith}
 use Rattle.getting.proofs.Laws.{got_as, value_found, value_none}
 use Rattle.getting.proofs.value.Goals as goal

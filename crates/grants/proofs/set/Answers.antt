@@ -1,7 +1,7 @@
 -- `grants::set` meets its contract. Both columns are edited by one plan, which is right; where there is no room, the plan says how many bounds the map would take.
 -- Assumes nothing.
 use mathlib.Core.Path.{◌≡◌, refl, sym, ◌∙◌}
-use mathlib.Core.Bool.{true, false}
+use mathlib.Core.Bool.{false}
 use native.Mathlib.Omega.{arith}
 use borrow.Author.Tests.{not-true, not-false}
 use Rattle.keys.specs.Bound.{below}

@@ -1,7 +1,6 @@
 -- `lengths::bound_length` meets its contract.
 -- Assumes nothing.
 use mathlib.Core.Path.{refl}
-use Prim.Native.Nat.{◌-◌}
 use native.Mathlib.Omega.{arith}
 use Rattle.format.specs.Number.{width}
 use Rattle.format.proofs.Numbers.{length_digits}

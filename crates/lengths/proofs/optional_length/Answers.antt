@@ -1,7 +1,6 @@
 -- `lengths::optional_length` meets its contract.
 -- Assumes nothing.
 use mathlib.Core.Path.{refl}
-use Prim.Native.Nat.{◌-◌}
 use native.Mathlib.Omega.{arith}
 use Rattle.format.proofs.Clear.{length_counted}
 use Rattle.lengths.proofs.optional_length.Goals as goal

@@ -1,6 +1,5 @@
 -- `lists::list` meets its contract.
 -- Assumes nothing.
-use Prim.Native.Nat.{◌-◌}
 use native.Mathlib.Omega.{arith}
 use Rattle.format.proofs.Answers.{number_as}
 use Rattle.lists.proofs.Answers.{rows_as}

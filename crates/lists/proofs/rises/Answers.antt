@@ -1,6 +1,6 @@
 -- `lists::rises` meets its contract.
 -- Assumes nothing.
-use Prim.Native.Nat.{◌-◌, suc-le-suc}
+use Prim.Native.Nat.{suc-le-suc}
 use native.Mathlib.Omega.{arith}
 use borrow.Author.Tests.{ltb-true, ltb-false}
 use mathlib.Core.Bool.{true≢false}

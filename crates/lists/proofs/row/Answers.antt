@@ -1,6 +1,5 @@
 -- `lists::row` meets its contract.
 -- Assumes nothing.
-use Prim.Native.Nat.{◌-◌}
 use native.Mathlib.Omega.{arith}
 use Rattle.format.proofs.Answers.{number_as, text_as}
 use Rattle.format.proofs.Reading.{pair_found, pair_first, pair_second}

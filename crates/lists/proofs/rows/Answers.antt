@@ -1,6 +1,5 @@
 -- `lists::rows` meets its contract.
 -- Assumes nothing.
-use Prim.Native.Nat.{◌-◌}
 use native.Mathlib.Omega.{arith}
 use Rattle.lists.proofs.Answers.{row_as}
 use Rattle.format.proofs.Listing.{leads_start, leads_more, leads_low, leads_lacks, leads_end}

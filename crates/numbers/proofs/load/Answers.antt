@@ -1,6 +1,5 @@
 -- `numbers::load` meets its contract.
 -- Assumes nothing.
-use Prim.Native.Nat.{◌-◌}
 use native.Mathlib.Omega.{arith}
 use Rattle.numbers.proofs.load.Goals as goal
 

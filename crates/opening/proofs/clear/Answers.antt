@@ -2,13 +2,11 @@
 -- Assumes nothing.
 use mathlib.Core.Path.{◌≡◌, refl, ap, ◌∙◌}
 use mathlib.Core.Logic.{⊎_elim}
-use Prim.Native.Nat.{ℕ, ◌-◌}
+use Prim.Native.Nat.{ℕ}
 use native.Mathlib.Omega.{arith}
 use lib.Seq.{get_or-set_same, get_or-set_other}
 use Rattle.columns.proofs.Cases.{lt_or_ge, eq_or_ne}
 use lib.ListN.{get_or-eq_default, length, get_or, set, length-set}
-use Rattle.opening.proofs.clear.Reads as reads
-use Rattle.opening.proofs.clear.Lts as lts
 use Rattle.opening.proofs.clear.Goals as goal
 
 pub loop-i-init : goal.loop-i-init

@@ -1,8 +1,6 @@
 use mathlib.Core.Path.{◌≡◌}
 use Prim.Native.Nat.{ℕ, ◌-◌, ◌<◌}
 use lib.ListN.{length, get_or}
-use Rattle.opening.proofs.clear.Reads as reads
-use Rattle.opening.proofs.clear.Lts as lts
 use Rattle.opening.proofs.clear.Given as goal
 
 abbrev pub invariant-loop-i : goal.invariant-loop-i

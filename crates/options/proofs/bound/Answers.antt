@@ -1,6 +1,5 @@
 -- `options::bound` meets its contract.
 -- Assumes nothing.
-use Prim.Native.Nat.{◌-◌}
 use native.Mathlib.Omega.{arith}
 use Rattle.options.proofs.bound.Goals as goal
 

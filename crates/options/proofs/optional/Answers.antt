@@ -1,6 +1,5 @@
 -- `options::optional` meets its contract.
 -- Assumes nothing.
-use Prim.Native.Nat.{◌-◌}
 use Rattle.options.proofs.optional.Goals as goal
 
 pub returns-then-some : goal.returns-then-some

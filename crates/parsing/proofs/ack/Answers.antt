@@ -1,6 +1,5 @@
 -- `parsing::ack` meets its contract.
 -- Assumes nothing.
-use Prim.Native.Nat.{◌-◌}
 use native.Mathlib.Omega.{arith}
 use lib.ListN.{length}
 use Rattle.format.proofs.Answers.{number_as}

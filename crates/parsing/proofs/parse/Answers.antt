@@ -1,6 +1,5 @@
 -- `parsing::parse` meets its contract.
 -- Assumes nothing.
-use Prim.Native.Nat.{◌-◌}
 use native.Mathlib.Omega.{arith}
 use lib.ListN.{length}
 use Rattle.format.proofs.Reading.{choice_empty, choice_other}

@@ -6,7 +6,6 @@ use native.Mathlib.Omega.{arith}
 use lib.ListN.{length, get_or}
 use Rattle.memory.specs.Bytes.{part}
 use Rattle.peers.proofs.Laws.{place_fits, keeps_places}
-use Rattle.peers.proofs.room.Reads as room-reads
 use Rattle.peers.proofs.name.Goals as goal
 
 pub returns-then-room-peer : goal.returns-then-room-peer

@@ -1,6 +1,6 @@
 -- `peers::room` meets its contract.
 -- Assumes nothing.
-use Prim.Native.Nat.{◌-◌, ◌<◌}
+use Prim.Native.Nat.{◌<◌}
 use native.Mathlib.Omega.{arith}
 use native.Mathlib.Nat.{le-div_iff_mul-le}
 use Rattle.peers.proofs.room.Goals as goal

@@ -1,6 +1,5 @@
 -- `picking::free` meets its contract. The loop's invariant: every place passed is taken. The measure is what is left.
 -- Assumes nothing.
-use Prim.Native.Nat.{◌-◌}
 use native.Mathlib.Omega.{arith}
 use borrow.Author.Count.{below_none, below_more}
 use Rattle.picking.proofs.free.Goals as goal

@@ -1,6 +1,5 @@
 -- `referring::refer` meets its contract.
 -- Assumes nothing.
-use Prim.Native.Nat.{◌-◌}
 use native.Mathlib.Omega.{arith}
 use Rattle.referring.proofs.Laws.{referred}
 use Rattle.referring.proofs.refer.Goals as goal

@@ -1,6 +1,5 @@
 -- `resending::find` meets its contract.
 -- Assumes nothing.
-use Prim.Native.Nat.{◌-◌}
 use native.Mathlib.Omega.{arith}
 use borrow.Author.Count.{below_more}
 use Rattle.resending.proofs.Laws.{stands, somewhere}

@@ -1,7 +1,5 @@
 -- `rows::row` meets its contract.
 -- Assumes nothing.
-use Prim.Native.Nat.{◌-◌}
-use lib.ListN.{set}
 use Rattle.rows.proofs.Laws.{gets, sets, shards, delegates, replies, redirects, shard_stays, delegate_stays}
 use Rattle.rows.proofs.row.Goals as goal
 

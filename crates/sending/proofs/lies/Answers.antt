@@ -2,7 +2,7 @@
 -- Assumes nothing.
 use mathlib.Core.Path.{refl}
 use mathlib.Core.Logic.{⊎_elim}
-use Prim.Native.Nat.{ℕ, ◌<◌, suc, ◌+◌, ◌-◌, ◌≤◌, ◌*◌, ◌/◌}
+use Prim.Native.Nat.{ℕ, ◌<◌, suc, ◌+◌, ◌≤◌, ◌*◌, ◌/◌}
 use native.Mathlib.Omega.{arith}
 use Rattle.columns.proofs.Cases.{lt_or_ge}
 use native.Mathlib.Nat.{le-div_iff_mul-le, suc-mul}

@@ -1,6 +1,5 @@
 -- `sets::sound` meets its contract.
 -- Assumes nothing.
-use Prim.Native.Nat.{◌-◌}
 use native.Mathlib.Omega.{arith}
 use borrow.Author.Tests.{leb-true, leb-false}
 use Rattle.sets.proofs.Laws.{none_sound, outside, by_length}

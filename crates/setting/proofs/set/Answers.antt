@@ -1,6 +1,5 @@
 -- `setting::set` meets its contract.
 -- Assumes nothing.
-use Prim.Native.Nat.{◌-◌}
 use Rattle.getting.proofs.Laws.{pick_as}
 use Rattle.setting.proofs.Laws.{sound_as, too_long, picks, runs_out, no_place}
 use Rattle.setting.proofs.set.Goals as goal

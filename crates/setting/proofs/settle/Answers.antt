@@ -1,7 +1,6 @@
 -- `setting::settle` meets its contract.
 -- Assumes nothing.
 use mathlib.Core.Path.{sym, ap}
-use Prim.Native.Nat.{◌-◌}
 use native.Mathlib.Omega.{arith}
 use Rattle.message.specs.View.{value_of}
 use Rattle.setting.proofs.Laws.{refers, sets, sound_in, value_taken}

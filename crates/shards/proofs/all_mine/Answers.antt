@@ -1,7 +1,7 @@
 -- `shards::all_mine` meets its contract.
 -- Assumes nothing.
 use mathlib.Core.Path.{sym, ◌∙◌}
-use mathlib.Core.Bool.{true, false, false≢true}
+use mathlib.Core.Bool.{false≢true}
 use Rattle.shards.proofs.all_mine.Goals as goal
 
 pub returns-then-not-some_key : goal.returns-then-not-some_key

@@ -1,6 +1,5 @@
 -- `storing::put` meets its contract.
 -- Assumes nothing.
-use Prim.Native.Nat.{◌-◌}
 use native.Mathlib.Omega.{arith}
 use Rattle.storing.proofs.Laws.{stored_as, settled_as, stored_fits, drops, never_long}
 use Rattle.storing.proofs.put.Goals as goal

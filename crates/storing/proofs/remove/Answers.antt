@@ -1,7 +1,6 @@
 -- `storing::remove` meets its contract.
 -- Assumes nothing.
 use mathlib.Core.Path.{refl}
-use Prim.Native.Nat.{◌-◌}
 use native.Mathlib.Omega.{arith}
 use Rattle.storing.proofs.Laws.{settled_as}
 use Rattle.storing.proofs.remove.Goals as goal

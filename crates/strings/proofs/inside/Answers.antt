@@ -1,7 +1,7 @@
 -- `strings::inside` meets its contract. The loop's invariant: each string passed lies within the bytes. The measure is what is left.
 -- Assumes nothing.
 use mathlib.Core.Bool.{true≢false, false≢true}
-use Prim.Native.Nat.{◌+◌, ◌-◌, ◌≤◌}
+use Prim.Native.Nat.{◌+◌, ◌≤◌}
 use native.Mathlib.Omega.{arith}
 use lib.ListN.{get_or}
 use borrow.Author.Count.{below_none, below_more}

@@ -3,7 +3,7 @@
 -- Assumes nothing.
 use mathlib.Core.Logic.{⊎_elim}
 use mathlib.Core.Bool.{true≢false, false≢true}
-use Prim.Native.Nat.{◌-◌, ◌≤◌}
+use Prim.Native.Nat.{◌≤◌}
 use native.Mathlib.Omega.{arith}
 use lib.ListN.{length, get_or-eq_default}
 use borrow.Author.Count.{below_none, below_more}

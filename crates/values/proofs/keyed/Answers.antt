@@ -1,6 +1,5 @@
 -- `values::keyed` meets its contract.
 -- Assumes nothing.
-use Prim.Native.Nat.{◌-◌}
 use native.Mathlib.Omega.{arith}
 use Rattle.format.proofs.Answers.{number_as}
 use Rattle.values.proofs.Answers.{value_as}

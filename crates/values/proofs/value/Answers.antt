@@ -1,6 +1,5 @@
 -- `values::value` meets its contract.
 -- Assumes nothing.
-use Prim.Native.Nat.{◌-◌}
 use native.Mathlib.Omega.{arith}
 use Rattle.format.proofs.Answers.{text_as}
 use Rattle.format.proofs.Reading.{maybe_none, maybe_some, maybe_empty, maybe_other, maybe_lacks}

@@ -1,7 +1,6 @@
 -- `writing::byte` meets its contract.
 -- Assumes nothing.
 use mathlib.Core.List.{[], ◌∷◌}
-use Prim.Native.Nat.{◌-◌}
 use native.Mathlib.Omega.{arith}
 use Rattle.memory.proofs.Copies.{copied_yes, copied_no}
 use lib.Seq.{sets-eq}

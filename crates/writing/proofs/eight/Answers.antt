@@ -1,7 +1,6 @@
 -- `writing::eight` meets its contract.
 -- Assumes nothing.
 use mathlib.Core.Path.{refl}
-use Prim.Native.Nat.{◌-◌}
 use Rattle.writing.proofs.Halves.{halves}
 use Rattle.writing.proofs.eight.Goals as goal
 

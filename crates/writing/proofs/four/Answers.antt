@@ -1,7 +1,6 @@
 -- `writing::four` meets its contract.
 -- Assumes nothing.
 use mathlib.Core.Path.{refl}
-use Prim.Native.Nat.{◌-◌}
 use Rattle.writing.proofs.Halves.{halves}
 use Rattle.writing.proofs.four.Goals as goal
 

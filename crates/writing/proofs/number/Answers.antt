@@ -1,6 +1,5 @@
 -- `writing::number` meets its contract.
 -- Assumes nothing.
-use Prim.Native.Nat.{◌-◌}
 use native.Mathlib.Omega.{arith}
 use Rattle.memory.proofs.Copies.{copied_yes, copied_no}
 use Rattle.format.proofs.Numbers.{length_digits}

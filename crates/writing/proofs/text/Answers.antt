@@ -1,6 +1,5 @@
 -- `writing::text` meets its contract.
 -- Assumes nothing.
-use Prim.Native.Nat.{◌-◌}
 use native.Mathlib.Omega.{arith}
 use lib.ListN.{length}
 use Rattle.memory.proofs.Copies.{copied_then, copied_no}
