@@ -24,7 +24,7 @@ use Rattle.protocol.specs.Address.{among}
 use Rattle.protocol.specs.Records.{Value, look, setting, in_range, outside}
 use Rattle.protocol.specs.Owners.{Owners, owner_of, giving, whole}
 use Rattle.protocol.specs.State.{Host, Letter, done, short}
-use Rattle.protocol.specs.Delivery.{Step, Outcome, got, still, next, posted, numbered, stuck, dropped, unnumbered, replied, redirected, handed}
+use Rattle.protocol.specs.Delivery.{Step, Outcome, got, still, next, posted, numbered, stuck, dropped, unnumbered, replied, redirected}
 use Rattle.protocol.specs.Process.{free, discarded, answering, on_get, long, keeping, on_set, any_long, unfit, on_delegate, refused, handing, on_shard, on_body, on_letter, process}
 use Rattle.protocol.proofs.Addresses.{either, neither, short_among}
 use Rattle.protocol.proofs.Entries.{above_kept, look_in_range, look_outside, look_replacing, look_setting, or_else}

@@ -20,7 +20,7 @@ use Rattle.protocol.specs.Receive.{on_number, on_message, on_ack, on_datagram, o
 use Rattle.protocol.proofs.Addresses.{at_same}
 use Rattle.upstream.specs.Messages.{SingleMessage, message, ack, invalid, Packet}
 use Rattle.upstream.specs.Delivery.{insert, last_of, AckState, ack_of as state_of, New}
-use Rattle.upstream.specs.Hosts.{AppRequest, Complete, Takes, receives, sends, sent, Next, receive_packet}
+use Rattle.upstream.specs.Hosts.{AppRequest, Complete, Takes, receives, sent, Next, receive_packet}
 use Rattle.upstream.specs.View.{view_body, view_read, arrives, CarriesAll, sending, last_seen, view_ack, view_delivery, view_room, view, recorded}
 use Rattle.upstream.proofs.Lists.{all_sends, one_sent, sound}
 use Rattle.upstream.proofs.Views.{last_of_lem, seen_took, ack_of_lem, acks_confirmed}

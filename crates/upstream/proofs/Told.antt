@@ -5,20 +5,20 @@ use mathlib.Core.Bool.{Bool, true, false, false≢true}
 use mathlib.Core.List.{List}
 use mathlib.Core.Logic.{◌↔◌}
 use mathlib.Core.Option.{Option, none, some}
-use Prim.Native.Nat.{ℕ, suc, ◌+◌, ◌≤◌}
+use Prim.Native.Nat.{ℕ, suc, ◌≤◌}
 use native.Mathlib.Omega.{arith}
 use lib.Dec.{eqb, leb}
 use borrow.Author.Tests.{eqb-true, eqb-false, leb-true, leb-false}
-use Rattle.message.specs.Message.{Address, Body, Datagram}
+use Rattle.message.specs.Message.{Address, Body}
 use Rattle.message.specs.Message.{message as messageOf}
-use Rattle.decoding.specs.Decode.{same, read}
+use Rattle.decoding.specs.Decode.{read}
 use Rattle.decoding.proofs.Decided.{same_refl}
 use Rattle.protocol.specs.State.{Host, Letter}
 use Rattle.protocol.specs.Delivery.{Step, Outcome, full, invalid, elsewhere, taken, unreceived, again, future, arrived, stale, idle, stuck, replied, redirected, dropped, unnumbered, accepted, handed, resent, waits}
 use Rattle.protocol.specs.Receive.{on_number, on_message, on_datagram, on_room, receive}
 use Rattle.upstream.specs.Messages.{message}
-use Rattle.upstream.specs.Delivery.{last_of, New, ShouldAck}
-use Rattle.upstream.specs.View.{view_body, last_seen, view_delivery}
+use Rattle.upstream.specs.Delivery.{New, ShouldAck}
+use Rattle.upstream.specs.View.{view_body, view_delivery}
 use Rattle.upstream.proofs.Views.{last_of_lem}
 
 -- the message is new: it was taken, or there might have been no room for it
