@@ -21,7 +21,6 @@ fn main() {
 }
 
 fn build() -> Result<(), String> {
-    println!("cargo:rerun-if-env-changed=RATTLE_HOME");
     println!("cargo:rerun-if-env-changed=TAGSHARDS_BACK_END");
     println!("cargo:rerun-if-env-changed=TAGSHARDS_ARCHIVE");
     println!("cargo:rerun-if-changed=build/kit.rs");
@@ -47,10 +46,10 @@ fn is_native() -> Result<bool, String> {
 }
 
 /// The archive of crate `boundary`: the one that the variable names, from the repository's folder on, or else the
-/// shipped one. Making that proves the crate again, so it is made only where there is none.
+/// shipped one. Making that proves what no check has kept, so it is made only where there is none.
 fn archive(root: &Path) -> Result<PathBuf, String> {
     let named = env::var_os("TAGSHARDS_ARCHIVE");
-    let shipped = Path::new("target/staticlib/libboundary.a");
+    let shipped = Path::new("crates/boundary/out/libboundary.a");
     let archive = root.join(named.as_deref().map_or(shipped, Path::new));
     println!("cargo:rerun-if-changed={}", archive.display());
     if archive.exists() {
@@ -63,10 +62,10 @@ fn archive(root: &Path) -> Result<PathBuf, String> {
         ));
     }
     let mut rt = Command::new("rt");
-    let made = run(rt.args(["staticlib", "boundary"]).current_dir(root));
+    let made = run(rt.arg("lib").current_dir(root.join("crates/boundary")));
     made.map_err(|error| {
         let shipped = shipped.display();
-        format!("{shipped} is missing; 'rt staticlib boundary' makes it, which failed: {error}")
+        format!("{shipped} is missing; 'rt lib' in crates/boundary makes it, which failed: {error}")
     })?;
     Ok(archive)
 }
@@ -94,7 +93,7 @@ fn build_program(root: &Path, archive: &Path) -> Result<(), String> {
     let (object, program) = (out.join("caller.o"), out.join("caller"));
     kit.compile(&caller, &[&out], &object)?;
     kit.link(&object, archive, &program)?;
-    let mut words = kit.starters();
+    let mut words = kit.starters()?;
     words.push(program);
     let words: Vec<String> = words
         .iter()

@@ -1,9 +1,9 @@
 /* A host in C: it is lent its memory, takes a Set and a Get, and the datagrams that it hands out are printed.
 
-   It needs the archive that `rt staticlib boundary` writes (target/staticlib/libboundary.a), and an x86-64
+   It needs the archive that `rt lib` in crates/boundary writes (crates/boundary/out/libboundary.a), and an x86-64
    machine or an emulator of one:
 
-     cc -I include examples/c/host.c target/staticlib/libboundary.a && ./a.out
+     cc -I include examples/c/host.c crates/boundary/out/libboundary.a && ./a.out
 */
 #include "tagshards.h"
 

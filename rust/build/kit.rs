@@ -1,5 +1,5 @@
-//! The Rattle toolchain: where it is, and how x86-64 programs are compiled, linked and started with it. It makes them
-//! on every machine that it runs on, and has an emulator for the machines that are no x86-64.
+//! The Rattle toolchain: where it is, and how x86-64 programs are compiled, linked and started with it. A machine that
+//! is no x86-64 starts them under an emulator, `qemu-x86_64`, which is none of the toolchain's.
 use std::env;
 use std::path::{Path, PathBuf};
 use std::process::{Command, Stdio};
@@ -7,27 +7,24 @@ use std::process::{Command, Stdio};
 const TARGET: &str = "x86_64-unknown-linux-gnu";
 
 pub struct Kit {
-    own: PathBuf,
+    home: PathBuf,
 }
 
 impl Kit {
-    /// The toolchain's folder is in the variable that `rt` itself looks at, or else where the command `rt` is.
+    /// The toolchain's folder is that of the page of which the command `rt doc` prints the path.
     pub fn find() -> Result<Kit, String> {
-        let home = match env::var_os("RATTLE_HOME") {
-            Some(home) => PathBuf::from(home),
-            None => beside_rt()
-                .ok_or("the Rattle toolchain is missing: put its command 'rt' on the PATH")?,
-        };
-        let own = home.join("on").join(env::consts::ARCH);
-        if own.join("bin/rattle-link").exists() {
-            return Ok(Kit { own });
+        let said = Command::new("rt").arg("doc").output().map_err(|_| {
+            "the Rattle toolchain is missing: put its command 'rt' on the PATH".to_string()
+        })?;
+        let page = PathBuf::from(String::from_utf8_lossy(&said.stdout).trim());
+        match page.parent() {
+            Some(home) if home.join("bin/rattle-link").exists() => Ok(Kit { home: home.into() }),
+            _ => Err("'rt doc' names no page beside which the toolchain lies".to_string()),
         }
-        let arch = env::consts::ARCH;
-        Err(format!("the Rattle toolchain has no part for {arch}"))
     }
 
     fn tools(&self) -> PathBuf {
-        self.own.join("toolchain")
+        self.home.join("toolchain")
     }
 
     /// Compiles a C file; headers are looked for in the folders.
@@ -48,27 +45,31 @@ impl Kit {
     }
 
     pub fn link(&self, object: &Path, archive: &Path, program: &Path) -> Result<(), String> {
-        let mut link = Command::new(self.own.join("bin/rattle-link"));
+        let mut link = Command::new(self.home.join("bin/rattle-link"));
         link.args(["--target", TARGET, "--toolchain"]);
         link.arg(self.tools()).arg("-o").arg(program);
         run(link.arg(object).arg(archive))
     }
 
     /// The words that start a program, but for the program's own name at the end.
-    pub fn starters(&self) -> Vec<PathBuf> {
+    pub fn starters(&self) -> Result<Vec<PathBuf>, String> {
         let tools = self.tools();
-        let emulator = tools.join("bin/qemu-x86_64");
         let loader = tools.join("lib/ld-linux-x86-64.so.2");
         let words = [loader, PathBuf::from("--library-path"), tools.join("lib")];
-        let emulator = emulator.exists().then_some(emulator);
-        emulator.into_iter().chain(words).collect()
+        let emulator = match env::consts::ARCH {
+            "x86_64" => None,
+            arch => Some(emulator().ok_or(format!(
+                "an x86-64 program runs on {arch} only under 'qemu-x86_64': put it on the PATH"
+            ))?),
+        };
+        Ok(emulator.into_iter().chain(words).collect())
     }
 }
 
-fn beside_rt() -> Option<PathBuf> {
+fn emulator() -> Option<PathBuf> {
     let places = env::var_os("PATH")?;
-    let found = env::split_paths(&places).find_map(|place| place.join("rt").canonicalize().ok())?;
-    Some(found.parent()?.parent()?.to_path_buf())
+    let found = env::split_paths(&places).map(|place| place.join("qemu-x86_64"));
+    found.into_iter().find(|it| it.exists())
 }
 
 /// Runs a command. What it says on its standard output is for nobody.

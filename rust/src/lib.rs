@@ -63,7 +63,7 @@
 //! # Machines
 //!
 //! The proved code is compiled for x86-64 and linked there. On other machines each host starts a program that has it,
-//! under the emulator of the Rattle toolchain, and asks it over pipes: that is for tests, and slow.
+//! under an emulator, and asks it over pipes: that is for tests, and slow.
 #![deny(missing_docs)]
 #![deny(unsafe_op_in_unsafe_fn)]
 #![cfg_attr(not(tagshards_native), forbid(unsafe_code))]

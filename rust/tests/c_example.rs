@@ -40,7 +40,7 @@ fn build(kit: &Kit, root: &Path, out: &Path) -> Result<PathBuf, String> {
     let (object, program) = (out.join("host.o"), out.join("host"));
     let source = root.join("examples/c/host.c");
     kit.compile(&source, &[&root.join("include"), out], &object)?;
-    let archive = root.join("target/staticlib/libboundary.a");
+    let archive = root.join("crates/boundary/out/libboundary.a");
     kit.link(&object, &archive, &program)?;
     Ok(program)
 }
@@ -52,7 +52,7 @@ fn the_example_in_c() {
     std::fs::create_dir_all(&out).expect("a folder");
     let kit = Kit::find().expect("the toolchain");
     let program = build(&kit, &root, &out).expect("the example is built");
-    let mut words = kit.starters();
+    let mut words = kit.starters().expect("a way to start it");
     words.push(program);
     let run = Command::new(&words[0])
         .args(&words[1..])

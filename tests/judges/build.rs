@@ -1,6 +1,6 @@
-//! Builds the program that calls the proved functions (src/caller.c) from the archives that `rt staticlib` writes of
-//! the CRATES, with the compiler, linker and C library of the Rattle toolchain: they make x86-64 programs on every
-//! machine that the toolchain runs on. Tells src/library.rs how the program is started.
+//! Builds the program that calls the proved functions (src/caller.c) from the archives that `rt lib` writes of the
+//! CRATES, with the compiler, linker and C library of the Rattle toolchain. Tells src/library.rs how the program is
+//! started: it is x86-64 code, so other machines need an emulator, `qemu-x86_64`, which is none of the toolchain's.
 use std::env;
 use std::path::{Path, PathBuf};
 use std::process::{exit, Command};
@@ -19,35 +19,34 @@ fn main() {
     for file in ["src/caller.c", "src/functions.rs"] {
         println!("cargo:rerun-if-changed={}", here.join(file).display());
     }
-    println!("cargo:rerun-if-env-changed=RATTLE_HOME");
     let archives = CRATES.map(|name| archive(&here, name));
-    let own = toolchain().join("on").join(env::consts::ARCH);
-    let tools = own.join("toolchain");
-    let program = built(&own, &here, &out, &archives);
+    let kit = kit();
+    let tools = kit.join("toolchain");
+    let program = built(&kit, &here, &out, &archives);
     tell("CALLER", &program);
     tell("CALLER_LOADER", &tools.join("lib/ld-linux-x86-64.so.2"));
     tell("CALLER_LIBRARIES", &tools.join("lib"));
-    tell("CALLER_EMULATOR", &emulator(&tools));
+    tell("CALLER_EMULATOR", &emulator());
 }
 
 /// The archive of a crate.
 fn archive(here: &Path, name: &str) -> PathBuf {
-    let archive = here.join(format!("../../target/staticlib/lib{name}.a"));
+    let archive = here.join(format!("../../crates/{name}/out/lib{name}.a"));
     println!("cargo:rerun-if-changed={}", archive.display());
     if !archive.exists() {
         fail(&format!(
-            "target/staticlib/lib{name}.a is missing; this makes it: rt staticlib {name}"
+            "crates/{name}/out/lib{name}.a is missing; 'rt lib' in crates/{name} makes it"
         ));
     }
     archive
 }
 
 /// The program, from the C file and the archives.
-fn built(own: &Path, here: &Path, out: &Path, archives: &[PathBuf]) -> PathBuf {
+fn built(kit: &Path, here: &Path, out: &Path, archives: &[PathBuf]) -> PathBuf {
     list_functions(&out.join("functions.inc"));
     let object = out.join("caller.o");
     let program = out.join("caller");
-    let tools = own.join("toolchain");
+    let tools = kit.join("toolchain");
     run(Command::new(tools.join("bin/clang"))
         .args([
             "--target=x86_64-unknown-linux-gnu",
@@ -63,38 +62,37 @@ fn built(own: &Path, here: &Path, out: &Path, archives: &[PathBuf]) -> PathBuf {
             Path::new("-o"),
             &object,
         ]));
-    run(Command::new(own.join("bin/rattle-link"))
+    run(Command::new(kit.join("bin/rattle-link"))
         .args(["--target", TARGET, "--toolchain"])
         .args([&tools, Path::new("-o"), &program, &object])
         .args(archives));
     program
 }
 
-/// The toolchain's folder: the variable that `rt` itself looks at, or else where the command `rt` is.
-fn toolchain() -> PathBuf {
-    if let Some(home) = env::var_os("RATTLE_HOME") {
-        return PathBuf::from(home);
-    }
-    let places = env::var_os("PATH").unwrap_or_default();
-    let found = env::split_paths(&places).find_map(|place| place.join("rt").canonicalize().ok());
-    match found
-        .as_deref()
-        .and_then(Path::parent)
-        .and_then(Path::parent)
-    {
-        Some(home) => home.to_path_buf(),
-        None => fail("the Rattle toolchain is missing: put its command 'rt' on the PATH"),
+/// The toolchain's folder: that of the page of which the command `rt doc` prints the path.
+fn kit() -> PathBuf {
+    let said = match Command::new("rt").arg("doc").output() {
+        Ok(said) => String::from_utf8_lossy(&said.stdout).into_owned(),
+        Err(_) => fail("the Rattle toolchain is missing: put its command 'rt' on the PATH"),
+    };
+    match Path::new(said.trim()).parent() {
+        Some(home) if home.join("bin/rattle-link").exists() => home.to_path_buf(),
+        _ => fail("'rt doc' names no page beside which the toolchain lies"),
     }
 }
 
-/// The emulator that the toolchain has for a processor that is no x86-64; no path where none is needed.
-fn emulator(tools: &Path) -> PathBuf {
-    let emulator = tools.join("bin/qemu-x86_64");
-    if emulator.exists() {
-        emulator
-    } else {
-        PathBuf::new()
+/// The emulator that a machine needs which is no x86-64; no path where none is needed.
+fn emulator() -> PathBuf {
+    if env::consts::ARCH == "x86_64" {
+        return PathBuf::new();
     }
+    let places = env::var_os("PATH").unwrap_or_default();
+    let found = env::split_paths(&places)
+        .map(|place| place.join("qemu-x86_64"))
+        .find(|it| it.exists());
+    found.unwrap_or_else(|| {
+        fail("the judges' program is x86-64 code: put 'qemu-x86_64' on the PATH")
+    })
 }
 
 fn list_functions(path: &Path) {
