@@ -1,5 +1,5 @@
 -- The message that bytes are, as a function that computes, so that the host's steps can be functions. How a candidate is found need not be
--- believed: it is taken only if it may be written and is written as those very bytes, and the laws `read_Some` and `Read-none` say that the
+-- believed: it is taken only if it may be written and is written as those very bytes, and the laws `read_some` and `read_none` say that the
 -- function answers a message exactly if there is one.
 -- Assumes nothing.
 use Rattle.std.specs.Prelude.{Bool, true, false, cond, ◌&&◌, List, [], ◌∷◌, ℕ, zero, suc, ◌+◌, length, take, drop, eqb, ltb, leb}

@@ -1,6 +1,6 @@
 -- How lent memory keeps a table. `keys` has the keys in rising order, the first n of them count. `slots` is a permutation of the places for
 -- values: the value of the entry at place i stands in slot `slots[i]`, and the slots past n are free. Slot s has its value's length at
--- `lens[s]` and its bytes from `values[s * valueMax]` on. So keys and slot numbers are moved when the table changes, values never.
+-- `lens[s]` and its bytes from `values[s * value_max]` on. So keys and slot numbers are moved when the table changes, values never.
 -- Assumes nothing.
 use Rattle.std.specs.Prelude.{◌≡◌, List, ℕ, ◌*◌, ◌≤◌, ◌<◌, length, get_or}
 use Rattle.limits.specs.Limits.{value_max}

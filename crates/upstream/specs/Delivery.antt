@@ -1,4 +1,4 @@
--- Upstream's delivery, single_delivery_t: messages delivered once, as it says them. `receiveAck` leaves what was received free, as there.
+-- Upstream's delivery, single_delivery_t: messages delivered once, as it says them. `ReceiveAck` leaves what was received free, as there.
 -- Assumes nothing.
 use Rattle.std.specs.Prelude.{◌≡◌, cond, List, [], ◌∷◌, ◌++◌, ℕ, ◌+◌, ◌≤◌, ◌<◌, length, leb}
 use Rattle.std.proofs.Math.Option.{Option, none, some}

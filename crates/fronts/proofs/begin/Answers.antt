@@ -36,4 +36,4 @@ returns c =
     let y = copied_then (0 ∷ n) to a.d.now _ _ 0 _ (omega (arith, ln)) (omega (arith, ln, lt, f2)) x c.text.ensures in
     let z = copied_then ((0 ∷ n) ++ to) (a.kind ∷ []) a.d.now _ _ 0 _ (omega (arith, ln, lt, l0)) (omega (arith, ln, lt, l0, f2)) y c.byte-2.ensures in
     let all = length_front a.n a.to.now a.kind in
-    record { is = (omega (arith, all), c.if-to-ge-BYTES_MAX.false, omega (arith, f2, c.if-d-head-2.false), (z.done (omega (arith, all, f2))).1) }
+    record { is = (omega (arith, all), omega arith, omega (arith, f2, c.if-d-head-2.false), (z.done (omega (arith, all, f2))).1) }

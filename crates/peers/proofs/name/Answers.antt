@@ -20,12 +20,12 @@ returns-then-width-len c =
 pub overflow_mul-from : goal.overflow_mul-from
 overflow_mul-from c =
     let a = c.args in
-    omega (arith, place_fits a.peer _ a.width (length a.names.now) c.if-room-peer.false c.room.ensures.2, c.ranges, c.type_inv)
+    omega (arith, place_fits a.peer _ a.width (length a.names.now) c.if-room-peer.false c.room.ensures.2, c.ranges)
 
 pub overflow_add-result : goal.overflow_add-result
 overflow_add-result c =
     let a = c.args in
-    omega (arith, place_fits a.peer _ a.width (length a.names.now) c.if-room-peer.false c.room.ensures.2, c.if-width-len.false, c.ranges, c.type_inv)
+    omega (arith, place_fits a.peer _ a.width (length a.names.now) c.if-room-peer.false c.room.ensures.2, c.if-width-len.false, c.ranges)
 
 pub returns : goal.returns
 returns c =
