@@ -4,12 +4,12 @@ use mathlib.Core.Path.{◌≡◌, refl, sym, ap, ap₂, ◌∙◌, subst}
 use mathlib.Core.Logic.{⊎_elim}
 use mathlib.Core.Bool.{Bool, true, false, ◌&&◌, ◌||◌, not}
 use mathlib.Core.List.{List, [], ◌∷◌}
-use Prim.Native.Nat.{ℕ, zero, suc, ◌+◌, ◌<◌}
+use Prim.Native.Nat.{ℕ, zero, suc, ◌+◌}
 use native.Mathlib.Omega.{arith}
 use lib.ListN.{length, get_or}
 use lib.Dec.{ltb, leb}
 use borrow.Author.Tests.{lt-ltb, le-ltb, le-leb, lt-leb}
-use Rattle.limits.specs.Limits.{entries_limit, numbers}
+use Rattle.limits.specs.Limits.{entries_limit}
 use Rattle.keys.specs.declared.Bound.{Bound}
 use Rattle.keys.specs.Bound.{below}
 use Rattle.columns.proofs.Cases.{lt_or_ge}
@@ -17,11 +17,11 @@ use Rattle.memory.specs.Bytes.{part}
 use Rattle.format.specs.Format.{Entry, Above}
 use Rattle.message.specs.Message.{Address}
 use Rattle.records.specs.Table.{Value, replaced, Listed}
-use Rattle.delegation.specs.declared.Changed.{Changed}
-use Rattle.delegation.specs.declared.Changed.TheVariants.{Bounds, NoRoom}
+use Rattle.std.specs.Prelude.{Ok, Err}
+use Rattle.limits.specs.declared.NoRoom.{NoRoom}
 use Rattle.delegation.specs.Map.{updated, room, AfterSet}
-use Rattle.entries.specs.declared.Replaced.{Replaced}
-use Rattle.entries.specs.declared.Replaced.TheVariants.{Entries, Full, TooLong, Malformed}
+use Rattle.entries.specs.declared.Refused.{Refused}
+use Rattle.entries.specs.declared.Refused.TheVariants.{Full, TooLong, Malformed}
 use Rattle.entered.specs.Entered.{Entered}
 use Rattle.entries.specs.Answers.{AfterReplace}
 use Rattle.protocol.specs.Address.{among}
@@ -37,44 +37,13 @@ use Rattle.hosts.specs.declared.Processed.TheVariants.{Accepted}
 use Rattle.hosts.specs.Memory.{Memory, memory}
 use Rattle.hosts.specs.Limits.{Bounded}
 use Rattle.hosts.specs.Keeps.{Core}
-use Rattle.hosts.specs.Answers.{moved, dropped_of, Does, Heard}
+use Rattle.hosts.specs.Answers.{moved, Does, Heard}
 use Rattle.hosts.proofs.Core.{name_is}
 use Rattle.hosts.proofs.Says.{says_done}
 use Rattle.hosts.proofs.Maps.{among_hosts, giving_is, giving_in, set_done}
 use Rattle.hosts.proofs.Tables.{key_at, value_at, made, made_is, listed_of, replaced_is, size_replaced}
 use Rattle.delegates.specs.Answers.{entry_at, Filled}
-use Rattle.accepting.specs.Inner.{Ready, AfterEntries}
-
--- ---- what was answered, at the answer that was matched
-
-pub set_as : {lows owners lows' owners' : List ℕ} {n v : ℕ} {lo hi : Bound} {r q : Changed} → r ≡ q → AfterSet lows owners n lo hi v r lows' owners'
-    → AfterSet lows owners n lo hi v q lows' owners'
-set_as {lows} {owners} {lows'} {owners'} {n} {v} {lo} {hi} e A = subst (λ (x : Changed). AfterSet lows owners n lo hi v x lows' owners') e A
-
-pub replace_as : {keys slots lens values keys' slots' lens' values' ks ats ls s : List ℕ} {n m : ℕ} {lo hi : Bound} {r q : Replaced} → r ≡ q
-    → AfterReplace keys slots lens values n lo hi ks ats ls s m r keys' slots' lens' values'
-    → AfterReplace keys slots lens values n lo hi ks ats ls s m q keys' slots' lens' values'
-replace_as {keys} {slots} {lens} {values} {keys'} {slots'} {lens'} {values'} {ks} {ats} {ls} {s} {n} {m} {lo} {hi} e A =
-    subst (λ (x : Replaced). AfterReplace keys slots lens values n lo hi ks ats ls s m x keys' slots' lens' values') e A
-
--- how many entries there are, and one more, or 0 for a refusal
-abbrev pub stored : Replaced → ℕ
-stored (Entries n) = suc n
-stored Full = 0
-stored TooLong = 0
-stored Malformed = 0
-
-pub entries_taken : {k : State} {bounds : ℕ} {q : Replaced} (n : ℕ) → q ≡ Entries n → (t : State)
-    → (t.len ≡ 0) × (suc k.transfers < numbers → t ≡ moved k bounds n) → AfterEntries k bounds q (record { state = t; outcome = Accepted })
-entries_taken {k} {bounds} n e t w = record {
-  freed = w.0;
-  is = λ x p small.
-      let same : n ≡ x = omega (arith, ap stored (sym e ∙ p)) in
-      ap (λ (u : State). record { state = u; outcome = Accepted }) (w.1 small ∙ ap (moved k bounds) same);
-}
-
-pub entries_dropped : {k : State} {bounds : ℕ} {q : Replaced} (r : Done) → stored q ≡ 0 → r ≡ dropped_of k → AfterEntries k bounds q r
-entries_dropped r z e = record { freed = ap (λ (u : Done). u.state.len) e; is = λ x p small. absurd (omega (arith, z, ap stored p)) }
+use Rattle.accepting.specs.Inner.{Ready}
 
 -- ---- when it is dropped
 
@@ -140,7 +109,7 @@ module _ (m : Memory) (k : State) (h : Host) (C : Core m k h) (s : List ℕ) (lo
   lists = filled_listed s es ks ats ls n R.filled R.count R.above
 
   -- so it is not answered that the map has no room
-  pub set_fits : (lows owners : List ℕ) → AfterSet m.lows m.owners k.bounds lo hi k.me NoRoom lows owners
+  pub set_fits : {e : NoRoom} (lows owners : List ℕ) → AfterSet m.lows m.owners k.bounds lo hi k.me (Err e) lows owners
       → (m' : Memory) (r : Done) (x : Step) → Does m' r.state r.outcome x
   set_fits lows owners A m' r x =
       absurd
@@ -157,23 +126,20 @@ module _ (m : Memory) (k : State) (h : Host) (C : Core m k h) (s : List ℕ) (lo
   }
 
   -- .. nor any refusal of the entries
-  pub replaced_or : (r : Replaced) (keys slots lens values : List ℕ)
-      → AfterReplace m.keys m.slots m.lens m.values k.entries lo hi ks ats ls s n r keys slots lens values
-      → (x : ℕ) × (r ≡ Entries x)
-  replaced_or (Entries x) keys slots lens values A = (x, refl)
-  replaced_or Full keys slots lens values A =
+  pub replace_fits : (q : Refused) (keys slots lens values : List ℕ)
+      → AfterReplace m.keys m.slots m.lens m.values k.entries lo hi ks ats ls s n (Err q) keys slots lens values → ⊥
+  replace_fits Full keys slots lens values A =
       let f = A.is.4 C.T C.table_kept val in
-      absurd
-      (omega (arith, f.2, R.entries, size_replaced C.T h.records C.says.record_is C.says.sorted lo hi es R.above n key val lists f.0 f.1))
-  replaced_or TooLong keys slots lens values A =
+      omega (arith, f.2, R.entries, size_replaced C.T h.records C.says.record_is C.says.sorted lo hi es R.above n key val lists f.0 f.1)
+  replace_fits TooLong keys slots lens values A =
       let f = A.is.4 in
-      absurd (omega (arith, f.2, (R.filled.each f.0 (omega (arith, f.1, R.count))).short))
-  replaced_or Malformed keys slots lens values A = absurd (A.is.4 entered)
+      omega (arith, f.2, (R.filled.each f.0 (omega (arith, f.1, R.count))).short)
+  replace_fits Malformed keys slots lens values A = A.is.4 entered
 
   -- and the host has the range with the entries
   pub does_taken : (bounds entries : ℕ) (lows owners keys slots lens values : List ℕ)
-      → AfterSet m.lows m.owners k.bounds lo hi k.me (Bounds bounds) lows owners
-      → AfterReplace m.keys m.slots m.lens m.values k.entries lo hi ks ats ls s n (Entries entries) keys slots lens values
+      → AfterSet m.lows m.owners k.bounds lo hi k.me (Ok bounds) lows owners
+      → AfterReplace m.keys m.slots m.lens m.values k.entries lo hi ks ats ls s n (Ok entries) keys slots lens values
       → (l : Letter) (r : Done) → r ≡ record { state = moved k bounds entries; outcome = Accepted }
       → Does (memory lows owners keys slots lens values m.name_lens m.names m.counts m.places m.mail) r.state r.outcome
       (on_delegate false h l lo hi es)

@@ -1,23 +1,20 @@
--- What the private functions answer. A caller of the crate need not read this.
+-- What the private function answers. A caller of the crate need not read this.
 -- Assumes nothing.
-use Rattle.std.specs.Prelude.{◌≡◌, false, List, ℕ, suc, ◌-◌, ◌≤◌, ◌<◌, length}
-use Rattle.limits.specs.Limits.{transfers_limit, numbers}
+use Rattle.std.specs.Prelude.{◌≡◌, false, List, ℕ, ◌-◌, ◌≤◌, ◌<◌, length}
+use Rattle.limits.specs.Limits.{transfers_limit}
 use Rattle.keys.specs.declared.Bound.{Bound}
 use Rattle.format.specs.Format.{Entry, Above}
 use Rattle.delegation.specs.Map.{room}
-use Rattle.entries.specs.declared.Replaced.{Replaced}
-use Rattle.entries.specs.declared.Replaced.TheVariants.{Entries}
 use Rattle.protocol.specs.Records.{replacing}
 use Rattle.protocol.specs.Owners.{giving}
 use Rattle.protocol.specs.State.{Host, Letter}
 use Rattle.protocol.specs.Process.{on_delegate}
 use Rattle.hosts.specs.declared.State.{State}
-use Rattle.hosts.specs.declared.Processed.TheVariants.{Accepted}
 use Rattle.hosts.specs.declared.Done.{Done}
 use Rattle.hosts.specs.Memory.{memory}
 use Rattle.hosts.specs.Limits.{Bounded}
 use Rattle.hosts.specs.Keeps.{Core}
-use Rattle.hosts.specs.Answers.{moved, Does}
+use Rattle.hosts.specs.Answers.{Does}
 use Rattle.delegates.specs.Answers.{Filled}
 
 -- ---- the transfer taken
@@ -40,9 +37,3 @@ pub record AfterTake (lows owners keys slots lens values : List ℕ) (k : State)
       → Ready lows owners slots s lo hi ks ats ls m h es
       → Does (memory lows' owners' keys' slots' lens' values' name_lens names counts places mail) r.state r.outcome
       (on_delegate false h l lo hi es)
-
--- the entries are stored, and so the transfer is taken, or the room is free and that is all
-pub record AfterEntries (k : State) (bounds : ℕ) (q : Replaced) (r : Done) : Type 0 where
-  pub freed : r.state.len ≡ 0
-  pub is : (entries : ℕ) → q ≡ Entries entries → suc k.transfers < numbers
-      → r ≡ record { state = moved k bounds entries; outcome = Accepted }

@@ -3,32 +3,30 @@
 #![tactic(auto)]
 
 ghost use Rattle.accepting.specs.Answers.{AfterDelegate};
-ghost use Rattle.accepting.specs.Inner.{AfterTake, AfterEntries};
+ghost use Rattle.lent.specs.Parts.{IndexStays, MapStays, StringsStay};
+ghost use Rattle.accepting.specs.Inner.{AfterTake};
 
-use delegation::Changed;
-use entries::Replaced;
 use hosts::{Done, Processed, State};
 use keys::Bound;
+use lent::{Index, Map, Strings};
 use limits::ENTRIES_LIMIT;
 use message::ListView;
 
 // Processes the Delegate whose list stands in the datagram s.
 pub fn delegate(
-    lows: &mut [u64],
-    owners: &mut [u64],
-    keys: &mut [u64],
-    slots: &mut [u64],
-    lens: &mut [u64],
-    values: &mut [u8],
+    map: &mut Map<&mut [u64]>,
+    index: &mut Index<&mut [u64]>,
+    values: &mut Strings<&mut [u64], &mut [u8]>,
     k: State,
     s: &[u8],
     lo: Bound,
     hi: Bound,
     list: ListView,
 ) -> Done
-    ensures { AfterDelegate lows.old owners.old keys.old slots.old lens.old
-        values.old k s.now lo hi list result lows.new owners.new keys.new slots.new
-        lens.new values.new }
+    ensures stays { MapStays map.old map.new × IndexStays index.old index.new × StringsStay values.old values.new }
+    ensures is { AfterDelegate map.old.lows.now map.old.owners.now index.old.keys.now index.old.slots.now values.old.lens.now
+        values.old.bytes.now k s.now lo hi list result map.new.lows.now map.new.owners.now index.new.keys.now index.new.slots.now
+        values.new.lens.now values.new.bytes.now }
 {
     let m = list.count as usize;
     if !delegates::fine(k, lo, hi, m) {
@@ -41,20 +39,15 @@ pub fn delegate(
     if !delegates::columns(s, list.at, m, &mut ks, &mut ats, &mut ls) {
         return hosts::dropped(k);
     }
-    take(
-        lows, owners, keys, slots, lens, values, k, s, lo, hi, &ks, &ats, &ls, m,
-    )
+    take(map, index, values, k, s, lo, hi, &ks, &ats, &ls, m)
 }
 
 // Gives the range to the host and puts the entries in it. What does not fit is dropped: that never
 // happens after the room test.
 fn take(
-    lows: &mut [u64],
-    owners: &mut [u64],
-    keys: &mut [u64],
-    slots: &mut [u64],
-    lens: &mut [u64],
-    values: &mut [u8],
+    map: &mut Map<&mut [u64]>,
+    index: &mut Index<&mut [u64]>,
+    values: &mut Strings<&mut [u64], &mut [u8]>,
     k: State,
     s: &[u8],
     lo: Bound,
@@ -64,31 +57,32 @@ fn take(
     ls: &[u64],
     m: usize,
 ) -> Done
-    ensures { AfterTake lows.old owners.old keys.old slots.old lens.old
-        values.old k s.now lo hi ks.now ats.now ls.now m result lows.new
-        owners.new keys.new slots.new lens.new values.new }
+    ensures stays { MapStays map.old map.new × IndexStays index.old index.new × StringsStay values.old values.new }
+    ensures is { AfterTake map.old.lows.now map.old.owners.now index.old.keys.now index.old.slots.now values.old.lens.now
+        values.old.bytes.now k s.now lo hi ks.now ats.now ls.now m result map.new.lows.now
+        map.new.owners.now index.new.keys.now index.new.slots.now values.new.lens.now values.new.bytes.now }
 {
-    let set = grants::set(lows, owners, k.bounds, lo, hi, k.me as u64);
-    let Changed::Bounds(bounds) = set else {
+    let Ok(bounds) = grants::set(map.lows, map.owners, k.bounds, lo, hi, k.me as u64) else {
         return hosts::dropped(k);
     };
-    let replaced = entries::replace(
-        keys, slots, lens, values, k.entries, lo, hi, ks, ats, ls, m, s,
-    );
-    taken(k, bounds, replaced)
-}
-
-// What became of the transfer, by what became of its entries.
-fn taken(k: State, bounds: usize, replaced: Replaced) -> Done
-    ensures { AfterEntries k bounds replaced result }
-{
-    match replaced {
-        Replaced::Entries(entries) => Done {
-            state: hosts::moved(k, bounds, entries),
-            outcome: Processed::Accepted,
-        },
-        Replaced::Full => hosts::dropped(k),
-        Replaced::TooLong => hosts::dropped(k),
-        Replaced::Malformed => hosts::dropped(k),
+    let Ok(entries) = entries::replace(
+        index.keys,
+        index.slots,
+        values.lens,
+        values.bytes,
+        k.entries,
+        lo,
+        hi,
+        ks,
+        ats,
+        ls,
+        m,
+        s,
+    ) else {
+        return hosts::dropped(k);
+    };
+    Done {
+        state: hosts::moved(k, bounds, entries),
+        outcome: Processed::Accepted,
     }
 }

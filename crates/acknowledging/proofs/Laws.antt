@@ -8,7 +8,7 @@ use native.Mathlib.Omega.{arith}
 use borrow.Author.Tests.{lt-ltb, le-ltb}
 use Rattle.message.specs.Message.{Address}
 use Rattle.protocol.specs.Address.{among}
-use Rattle.peers.specs.declared.Peer.TheVariants.{Is, Unknown}
+use Rattle.std.specs.Prelude.{Some, None}
 use Rattle.peers.specs.Names.{AfterFind}
 use Rattle.delivery.specs.declared.Counts.{Counts}
 use Rattle.delivery.specs.Answers.{Counted}
@@ -20,7 +20,7 @@ use Rattle.acknowledging.specs.Answers.{AfterAck}
 
 module _ {name_lens names counts places : List ℕ} {k : State} {a : Address} {x : ℕ} where
   -- no peer has the address
-  pub unknown : AfterFind name_lens names k.width k.peers a Unknown → AfterAck name_lens names counts places k a x false counts places
+  pub unknown : AfterFind name_lens names k.width k.peers a None → AfterAck name_lens names counts places k a x false counts places
   unknown F = record {
     counts_is = λ lows owners keys slots lens values mail h C.
         rw (no_peer (memory lows owners keys slots lens values name_lens names counts places mail) k h C a (F.is C.N C.names_kept)) refl;
@@ -28,7 +28,7 @@ module _ {name_lens names counts places : List ℕ} {k : State} {a : Address} {x
     stale = λ e. (refl, refl);
   }
 
-  module _ {i : ℕ} {r : Counts} (F : AfterFind name_lens names k.width k.peers a (Is i)) (G : Counted counts i r) where
+  module _ {i : ℕ} {r : Counts} (F : AfterFind name_lens names k.width k.peers a (Some i)) (G : Counted counts i r) where
     -- the peer has acknowledged as much before
     pub nothing_new : x ≤ r.acknowledged → AfterAck name_lens names counts places k a x false counts places
     nothing_new l = record {

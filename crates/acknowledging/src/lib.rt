@@ -2,31 +2,31 @@
 // sent and says more than was known. An Ack is never acknowledged.
 #![tactic(auto)]
 
+ghost use Rattle.lent.specs.Parts.{PostStays};
 ghost use Rattle.acknowledging.specs.Answers.{AfterAck};
 
 use hosts::State;
-use peers::Peer;
+use lent::{Post, Strings};
 
 // The Ack of a number arrives from an address. Answers whether it counts.
 pub fn ack(
-    name_lens: &[u64],
-    names: &[u8],
-    counts: &mut [u64],
-    places: &mut [u64],
+    names: Strings<&[u64], &[u8]>,
+    post: &mut Post<&mut [u64]>,
     k: State,
     from: &[u8],
     number: u64,
 ) -> bool
-    ensures { AfterAck name_lens.now names.now counts.old places.old k from.now number result
-        counts.new places.new }
+    ensures stays { PostStays post.old post.new }
+    ensures is { AfterAck names.entry.lens.now names.entry.bytes.now post.old.counts.now post.old.places.now k from.now number result
+        post.new.counts.now post.new.places.now }
 {
-    let found = finding::find(name_lens, names, k.width, k.peers, from);
-    let Peer::Is(i) = found else {
+    let Some(i) = finding::find(names.lens, names.bytes, k.width, k.peers, from) else {
         return false;
     };
-    if number <= delivery::counts_of(counts, i).acknowledged {
+    let seen = post.view();
+    if number <= delivery::counts_of(seen.counts, i).acknowledged {
         return false;
     }
-    confirming::confirm(counts, places, i, number);
+    confirming::confirm(post.counts, post.places, i, number);
     true
 }

@@ -10,34 +10,34 @@ ghost use Rattle.message.specs.Table.{value};
 ghost use Rattle.message.specs.Answers.{AfterWrite};
 
 use format::WIDTH;
-use fronts::Start;
-use message::Written;
+use message::Refused;
 
-pub fn set(n: u64, to: &[u8], key: u64, some: bool, v: &[u8], d: &mut [u8]) -> Written
-    ensures { AfterWrite (message n to.now (set key (given some v.now))) d.old result d.new }
+pub fn set(n: u64, to: &[u8], key: u64, v: Option<&[u8]>, d: &mut [u8]) -> Result<usize, Refused>
+    ensures { AfterWrite (message n to.now (set key (given v.entry))) d.old result d.new }
 {
-    keyed(1, n, to, key, some, v, d)
+    keyed(1, n, to, key, v, d)
 }
 
-pub fn reply(n: u64, to: &[u8], key: u64, some: bool, v: &[u8], d: &mut [u8]) -> Written
-    ensures { AfterWrite (message n to.now (reply key (given some v.now))) d.old result d.new }
+pub fn reply(n: u64, to: &[u8], key: u64, v: Option<&[u8]>, d: &mut [u8]) -> Result<usize, Refused>
+    ensures { AfterWrite (message n to.now (reply key (given v.entry))) d.old result d.new }
 {
-    keyed(2, n, to, key, some, v, d)
+    keyed(2, n, to, key, v, d)
 }
 
 // A body of a key and a value, or none.
-fn keyed(kind: u8, n: u64, to: &[u8], key: u64, some: bool, v: &[u8], d: &mut [u8]) -> Written
-    ensures { AfterFields (pair number (maybe value)) (key, given some v.now) n to.now kind d.old result d.new }
+fn keyed(
+    kind: u8,
+    n: u64,
+    to: &[u8],
+    key: u64,
+    v: Option<&[u8]>,
+    d: &mut [u8],
+) -> Result<usize, Refused>
+    ensures { AfterFields (pair number (maybe value)) (key, given v.entry) n to.now kind d.old result d.new }
 {
-    let more = WIDTH + lengths::optional_length(some, v);
-    let begun = fronts::begin(n, to, kind, more, d);
-    match begun {
-        Start::At(at) => {
-            writing::number(key, d, at);
-            options::optional(some, v, d, at + WIDTH);
-            Written::Bytes(at + more)
-        }
-        Start::NoRoom => Written::NoRoom,
-        Start::Invalid => Written::Invalid,
-    }
+    let more = WIDTH + lengths::optional_length(v);
+    let at = fronts::begin(n, to, kind, more, d)?;
+    writing::number(key, d, at);
+    options::optional(v, d, at + WIDTH);
+    Ok(at + more)
 }

@@ -9,7 +9,8 @@ use format::WIDTH;
 use hosts::State;
 use rounds::{Ended, Turned};
 
-// A turn for receiving. If nothing has arrived, the sender and the datagram are not looked at.
+// A turn for receiving. If nothing has arrived, the sender and the datagram are not looked at: `arrived` stands
+// beside them, and not in an Option, since C hands the three in like that.
 pub fn arrive(
     lows: &[u64],
     owners: &[u64],
@@ -42,11 +43,9 @@ pub fn arrive(
     let arrival = receiving::receive(
         lows, owners, keys, slots, name_lens, names, counts, places, room, ack, k, from, s,
     );
-    let state = arrival.state;
-    let outcome = arrival.outcome;
     Ended {
-        state: rounds::over(state),
-        outcome: Turned::Came(outcome),
+        state: rounds::over(arrival.state),
+        outcome: Turned::Came(arrival.outcome),
         place: arrival.place,
     }
 }

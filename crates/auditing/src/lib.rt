@@ -7,6 +7,7 @@ ghost use Rattle.auditing.specs.Answers.{Audited};
 ghost use Rattle.auditing.specs.Inner.{Agreeing};
 
 use hosts::State;
+use lent::{Index, Map, Strings};
 use limits::{BYTES_MAX, DELEGATE_MAX, REDIRECT_MAX};
 
 // Does memory keep a host at all, all of whose waiting messages may be written?
@@ -46,7 +47,13 @@ pub fn audit(
     if !audits_mail::valid(name_lens, names, places, mail, k.width, k.size) {
         return false;
     }
-    audits_room::valid(lows, owners, keys, slots, name_lens, names, places, room, k)
+    let map = Map { lows, owners };
+    let index = Index { keys, slots };
+    let known = Strings {
+        lens: name_lens,
+        bytes: names,
+    };
+    audits_room::valid(map, index, known, places, room, k)
 }
 
 // Do the plain numbers agree: does every message that a host sends fit a datagram, are the hosts among the
@@ -54,17 +61,9 @@ pub fn audit(
 fn agreeing(k: State) -> bool
     ensures { Agreeing k result }
 {
-    if BYTES_MAX <= k.width {
-        return false;
-    }
-    if k.size < DELEGATE_MAX + k.width {
-        return false;
-    }
-    if k.size < REDIRECT_MAX + k.width + k.width {
-        return false;
-    }
-    if k.peers < k.hosts {
-        return false;
-    }
-    k.me < k.hosts
+    k.width < BYTES_MAX
+        && DELEGATE_MAX + k.width <= k.size
+        && REDIRECT_MAX + k.width + k.width <= k.size
+        && k.hosts <= k.peers
+        && k.me < k.hosts
 }

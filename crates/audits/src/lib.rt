@@ -12,13 +12,10 @@ use limits::VALUE_MAX;
 pub fn valid(keys: &[u64], slots: &[u64], lens: &[u64], values: &[u8], n: usize) -> bool
     ensures { Valid keys.now slots.now lens.now values.now n result }
 {
-    if !records::fits(keys.len(), slots.len(), lens.len(), values.len(), n) {
-        return false;
-    }
-    if !columns::rises(keys, n) {
-        return false;
-    }
-    if !permuted(slots) {
+    if !records::fits(keys.len(), slots.len(), lens.len(), values.len(), n)
+        || !columns::rises(keys, n)
+        || !permuted(slots)
+    {
         return false;
     }
     all_short(slots, lens, n)
@@ -28,12 +25,10 @@ pub fn valid(keys: &[u64], slots: &[u64], lens: &[u64], values: &[u8], n: usize)
 fn permuted(slots: &[u64]) -> bool
     ensures { Permuted slots.now result }
 {
-    let mut i: usize = 0;
-    while i < slots.len() {
+    for i in 0..slots.len() {
         if !fresh(slots, i) {
             return false;
         }
-        i += 1;
     }
     true
 }
@@ -44,17 +39,7 @@ fn fresh(slots: &[u64], i: usize) -> bool
     ensures { Fresh slots.now i result }
 {
     let s = slots[i];
-    if slots.len() as u64 <= s {
-        return false;
-    }
-    let mut j: usize = 0;
-    while j < i {
-        if slots[j] == s {
-            return false;
-        }
-        j += 1;
-    }
-    true
+    s < slots.len() as u64 && !slots[..i].contains(&s)
 }
 
 // Is no value of the first n entries too long?
@@ -62,16 +47,11 @@ fn all_short(slots: &[u64], lens: &[u64], n: usize) -> bool
     requires { n ≤ length slots.now }
     ensures { AllShort slots.now lens.now n result }
 {
-    let mut i: usize = 0;
-    while i < n {
-        let s = slots[i] as usize;
-        if lens.len() <= s {
+    for &slot in &slots[..n] {
+        let s = slot as usize;
+        if lens.len() <= s || VALUE_MAX < lens[s] as usize {
             return false;
         }
-        if VALUE_MAX < lens[s] as usize {
-            return false;
-        }
-        i += 1;
     }
     true
 }

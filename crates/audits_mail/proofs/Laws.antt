@@ -1,8 +1,9 @@
 -- What a datagram's bytes say of its number and destination, and what a place says of its datagram.
 -- Assumes nothing.
-use mathlib.Core.Path.{◌≡◌, refl, sym, ap, ◌∙◌, subst}
-use mathlib.Core.Bool.{Bool, true, false, true≢false, false≢true}
-use mathlib.Core.List.{List, []}
+use mathlib.Core.Path.{◌≡◌, refl, sym, ap, ◌∙◌}
+use mathlib.Core.Bool.{Bool, false, false≢true}
+use mathlib.Core.List.{List}
+use Rattle.std.specs.Prelude.{Some, None}
 use Prim.Native.Nat.{ℕ, suc, ◌+◌, ◌-◌, ◌*◌, ◌/◌, ◌<◌}
 use native.Mathlib.Nat.{le-div_iff_mul-le}
 use native.Mathlib.Omega.{arith}
@@ -10,85 +11,54 @@ use lib.ListN.{length, take, drop}
 use Rattle.memory.specs.Bytes.{part, Same}
 use Rattle.memory.proofs.Parts.{part_taken}
 use Rattle.format.specs.declared.Part.{Part}
-use Rattle.message.specs.Message.{Address, Datagram, message, ack}
+use Rattle.message.specs.Message.{Address, message, ack}
 use Rattle.message.specs.View.{bytes_of, body_of}
 use Rattle.message.specs.Answers.{AfterParse}
 use Rattle.message.specs.declared.BodyView.{BodyView}
-use Rattle.message.specs.declared.Parsed.{Parsed}
-use Rattle.message.specs.declared.Parsed.TheVariants.{Message, Ack, Invalid}
+use Rattle.message.specs.declared.Parsed.TheVariants.{Message, Ack}
 use Rattle.message.proofs.Laws.{one_message}
-use Rattle.peers.specs.declared.Where.{Where}
-use Rattle.peers.specs.declared.Where.TheVariants.{At, Missing}
 use Rattle.peers.specs.Names.{Keeps as KeepsNames, AfterName}
 use Rattle.delivery.specs.Post.{Post}
-use Rattle.delivery.specs.Memory.{Keeps as KeepsPost, capacity, mark_at, number_at, length_at, datagram_at}
+use Rattle.delivery.specs.Memory.{Keeps as KeepsPost, capacity, mark_at, number_at, length_at}
 use Rattle.audits_mail.specs.Answers.{MessageTo, Mailed, Valid}
 use Rattle.audits_mail.specs.Inner.{Addressed, Fine}
 
 -- ---- the bytes
 
-abbrev number_in : Datagram → ℕ
-number_in (message x a b) = x
-number_in (ack x) = x
-
-abbrev address_in : Datagram → Address
-address_in (message x a b) = a
-address_in (ack x) = []
-
-abbrev is_ack : Datagram → Bool
-is_ack (message x a b) = false
-is_ack (ack x) = true
-
-pub parse_as : {s : List ℕ} {r q : Parsed} → r ≡ q → AfterParse s r → AfterParse s q
-parse_as {s} e A = subst (λ (r : Parsed). AfterParse s r) e A
-
-pub name_as : {lens names : List ℕ} {w i : ℕ} {r s : Where} → r ≡ s → AfterName lens names w i r → AfterName lens names w i s
-name_as {lens} {names} {w} {i} e A = subst (λ (r : Where). AfterName lens names w i r) e A
-
 module _ {s : List ℕ} {x : ℕ} {a : Address} where
   no_message : (MessageTo x a s → ⊥) → Addressed x a s false
   no_message h = record { yes = λ e. absurd (false≢true e); no = λ e. h }
 
-  is_message : {n : ℕ} {p : Part} {b : BodyView} → AfterParse s (Message n p b) → (M : MessageTo x a s) → message n (bytes_of s p) (body_of s b) ≡ message x a M.0
+  is_message : {n : ℕ} {p : Part} {b : BodyView} → AfterParse s (Some (Message n p b)) → (M : MessageTo x a s) → message n (bytes_of s p) (body_of s b) ≡ message x a M.0
   is_message A M = one_message _ _ A.is.0 M.1 (A.is.1 ∙ sym M.2)
 
   -- an Ack is no message, nor are bytes that are none
-  pub not_ack : {n : ℕ} → AfterParse s (Ack n) → Addressed x a s false
-  not_ack {n} A =
-      no_message (λ M. true≢false (ap is_ack (one_message (ack n) (message x a M.0) A.is.0 M.1 (A.is.1 ∙ sym M.2))))
+  pub not_ack : {n : ℕ} → AfterParse s (Some (Ack n)) → Addressed x a s false
+  not_ack {n} A = no_message (λ M. let e = one_message (ack n) (message x a M.0) A.is.0 M.1 (A.is.1 ∙ sym M.2) in cc)
 
-  pub not_any : AfterParse s Invalid → Addressed x a s false
+  pub not_any : AfterParse s None → Addressed x a s false
   not_any A = no_message (λ M. A.is (message x a M.0) M.1 M.2)
 
-  pub other_number : {n : ℕ} {p : Part} {b : BodyView} → AfterParse s (Message n p b) → (n ≡ x → ⊥) → Addressed x a s false
-  other_number A u = no_message (λ M. u (ap number_in (is_message A M)))
+  pub other_number : {n : ℕ} {p : Part} {b : BodyView} → AfterParse s (Some (Message n p b)) → (n ≡ x → ⊥) → Addressed x a s false
+  other_number A u = no_message (λ M. let e = is_message A M in u (cc))
 
-  pub compared : {n : ℕ} {p : Part} {b : BodyView} {r : Bool} → AfterParse s (Message n p b) → n ≡ x
+  pub compared : {n : ℕ} {p : Part} {b : BodyView} {r : Bool} → AfterParse s (Some (Message n p b)) → n ≡ x
       → Same (take (p.at + p.len - p.at) (drop p.at s)) a r → Addressed x a s r
   compared {n} {p} {b} A e S =
       let t = part_taken s p.at p.len in
       record {
-        yes = λ q.
-            let w : bytes_of s p ≡ a = sym t ∙ S.yes q in
-            subst (λ (c : Address). MessageTo x c s) w
-            (subst (λ (y : ℕ). MessageTo y (bytes_of s p) s) e (body_of s b, A.is.0, A.is.1));
-        no = λ q M. S.no q (t ∙ ap address_in (is_message A M));
+        yes = λ q. let w : bytes_of s p ≡ a = sym t ∙ S.yes q in rw (← e, ← w) (body_of s b, A.is.0, A.is.1);
+        no = λ q M. let w = is_message A M in S.no q (t ∙ (cc));
       }
 
 -- ---- a place
 
 module _ {lens names places mail : List ℕ} {width size p : ℕ} where
-  pub free : mark_at places p ≡ 0 → Fine lens names places mail width size p true
-  free z = record { yes = λ e n N K counts P L i m. absurd (omega (arith, z, m)); no = λ e. absurd (true≢false e) }
-
   unfit : ((n : ℕ) (N : ℕ → Address) → KeepsNames lens names width n N → (counts : List ℕ) (P : Post) → KeepsPost counts places mail size n P → ⊥)
       → Fine lens names places mail width size p false
   unfit h = record { yes = λ e. absurd (false≢true e); no = λ e n N K counts P L d. h n N K counts P L }
 
-  pub too_long : p < capacity places → (mark_at places p ≡ 0 → ⊥) → size < length_at places p → Fine lens names places mail width size p false
-  too_long b u h = unfit (λ n N K counts P L. omega (arith, h, L.short p b (omega (arith, u))))
-
-  pub nameless : p < capacity places → (mark_at places p ≡ 0 → ⊥) → AfterName lens names width (mark_at places p - 1) Missing
+  pub nameless : p < capacity places → (mark_at places p ≡ 0 → ⊥) → AfterName lens names width (mark_at places p - 1) None
       → Fine lens names places mail width size p false
   nameless b u A =
       unfit (λ n N K counts P L.
@@ -96,24 +66,18 @@ module _ {lens names places mail : List ℕ} {width size p : ℕ} where
       A.is n N K (L.holding.only p (mark_at places p - 1) b m).0)
 
   pub read : {from to : ℕ} {t : Bool} → p < capacity places → (mark_at places p ≡ 0 → ⊥)
-      → AfterName lens names width (mark_at places p - 1) (At from to)
+      → AfterName lens names width (mark_at places p - 1) (Some (from, to))
       → Addressed (number_at places p) (part names from (to - from)) (take (p * size + length_at places p - p * size) (drop (p * size) mail)) t
       → Fine lens names places mail width size p t
-  read {from} {to} b u A D = record {
-    yes = λ q n N K counts P L i m.
-        let o = L.holding.only p i b m in
-        let j : mark_at places p - 1 ≡ i = omega (arith, m) in
-        subst (λ (s : List ℕ). MessageTo (number_at places p) (N i) s) (part_taken mail (p * size) (length_at places p))
-        (subst (λ (c : Address). MessageTo (number_at places p) c (take (p * size + length_at places p - p * size) (drop (p * size) mail)))
-        (named n N K o.0 j)
-        (D.yes q));
-    no = λ q n N K counts P L d.
-        let i : ℕ = mark_at places p - 1 in
-        let m : mark_at places p ≡ suc i = omega (arith, u) in
-        D.no q
-        (subst (λ (s : List ℕ). MessageTo (number_at places p) (part names from (to - from)) s) (sym (part_taken mail (p * size) (length_at places p)))
-        (subst (λ (c : Address). MessageTo (number_at places p) c (datagram_at places mail size p)) (sym (named n N K (L.holding.only p i b m).0 refl)) (d i m)));
-  }
+  read {from} {to} b u A D =
+      let t = part_taken mail (p * size) (length_at places p) in
+      record {
+        yes = λ q n N K counts P L i m. rw (sym (named n N K (L.holding.only p i b m).0 (omega (arith, m))), ← t) (D.yes q);
+        no = λ q n N K counts P L d.
+            let i : ℕ = mark_at places p - 1 in
+            let m : mark_at places p ≡ suc i = omega (arith, u) in
+            D.no q (rw (named n N K (L.holding.only p i b m).0 refl, t) (d i m));
+      }
     where
       named : (n : ℕ) (N : ℕ → Address) → KeepsNames lens names width n N → {i : ℕ} → i < n → mark_at places p - 1 ≡ i → part names from (to - from) ≡ N i
       named n N K {i} h j =

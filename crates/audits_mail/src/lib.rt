@@ -8,7 +8,6 @@ ghost use Rattle.audits_mail.specs.Inner.{Fine, Addressed};
 
 use delivery::WORDS;
 use message::Parsed;
-use peers::Where;
 
 // Is each datagram that waits a message with its place's number to the address of its place's peer?
 pub fn valid(
@@ -21,18 +20,13 @@ pub fn valid(
 ) -> bool
     ensures { Valid lens.now names.now places.now mail.now width size result }
 {
-    if size == 0 {
+    if size == 0 || mail.len() / size < places.len() / WORDS {
         return false;
     }
-    if mail.len() / size < places.len() / WORDS {
-        return false;
-    }
-    let mut p: usize = 0;
-    while p < places.len() / WORDS {
+    for p in 0..places.len() / WORDS {
         if !fine(lens, names, places, mail, width, size, p) {
             return false;
         }
-        p += 1;
     }
     true
 }
@@ -59,7 +53,7 @@ fn fine(
     if size < len {
         return false;
     }
-    let Where::At(a, b) = peers::name(lens, names, width, (mark - 1) as usize) else {
+    let Some((a, b)) = peers::name(lens, names, width, (mark - 1) as usize) else {
         return false;
     };
     let from = p * size;
@@ -71,17 +65,11 @@ fn fine(
 fn addressed(s: &[u8], number: u64, address: &[u8]) -> bool
     ensures { Addressed number address.now s.now result }
 {
-    let parsed = parsing::parse(s);
-    match parsed {
-        Parsed::Message(n, part, _) => {
-            if n != number {
-                return false;
-            }
-            let at = part.at;
-            let end = at + part.len;
-            memory::same(&s[at..end], address)
+    match parsing::parse(s) {
+        Some(Parsed::Message(n, to, _)) => {
+            n == number && memory::same(&s[to.at..to.at + to.len], address)
         }
-        Parsed::Ack(_) => false,
-        Parsed::Invalid => false,
+        Some(Parsed::Ack(_)) => false,
+        None => false,
     }
 }

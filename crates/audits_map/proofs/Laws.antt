@@ -1,10 +1,10 @@
 -- The map that bounds mean.
 -- Assumes nothing.
-use mathlib.Core.Path.{◌≡◌, sym, ap, ◌∙◌}
+use mathlib.Core.Path.{◌≡◌, ap}
 use mathlib.Core.Logic.{⊎_elim}
-use mathlib.Core.Bool.{Bool, false, cond, false≢true}
+use mathlib.Core.Bool.{Bool, cond}
 use mathlib.Core.List.{List}
-use Prim.Native.Nat.{ℕ, zero, suc, ◌+◌, ◌-◌, ◌≤◌, ◌<◌}
+use Prim.Native.Nat.{ℕ, zero, suc, ◌≤◌, ◌<◌}
 use native.Mathlib.Omega.{arith}
 use lib.ListN.{length, get_or}
 use lib.Dec.{ltb}
@@ -14,17 +14,6 @@ use Rattle.columns.proofs.Cases.{lt_or_ge}
 use Rattle.delegation.specs.Map.{Keeps}
 use Rattle.audits_map.specs.Answers.{Valid}
 use Rattle.audits_map.specs.Inner.{Joined, Hosts, Owned}
-
--- one more neighbour, with another owner
-pub joined_more : (owners : List ℕ) (i : ℕ) → 1 ≤ i → Joined owners i → (get_or owners (i - 1) 0 ≡ get_or owners i 0 → ⊥) → Joined owners (i + 1)
-joined_more owners i p t n j q e =
-    ⊎_elim
-    (λ s. t j s e)
-    (λ s.
-    let a : j ≡ i - 1 = omega arith in
-    let b : suc j ≡ i = omega arith in
-    n (sym (ap (λ (x : ℕ). get_or owners x 0) a) ∙ e ∙ ap (λ (x : ℕ). get_or owners x 0) b))
-    (lt_or_ge (suc j) i)
 
 -- the owner of the last of n bounds at or below the key
 abbrev map_of : (lows owners : List ℕ) → ℕ → ℕ → ℕ
@@ -64,9 +53,6 @@ module _ (lows owners : List ℕ) where
       (lt_or_ge k (get_or lows n 0))
 
 module _ {lows owners : List ℕ} {n hosts : ℕ} where
-  pub refuted : ((f : ℕ → ℕ) → Keeps lows owners n f → ((k : ℕ) → f k < hosts) → ⊥) → Valid lows owners n hosts false
-  refuted h = record { yes = λ e. absurd (false≢true e); no = λ e. h }
-
   -- each owner is that of its bound's own key
   owners_in : {f : ℕ → ℕ} → Keeps lows owners n f → ((k : ℕ) → f k < hosts) → Hosts owners n hosts
   owners_in {f} K h i q =

@@ -9,16 +9,11 @@ ghost use Rattle.audits_map.specs.Inner.{Owned, Turning};
 pub fn valid(lows: &[u64], owners: &[u64], n: usize, hosts: usize) -> bool
     ensures { Valid lows.now owners.now n hosts result }
 {
-    if !delegation::enough(lows, owners, n) {
-        return false;
-    }
-    if lows[0] != 0 {
-        return false;
-    }
-    if !columns::rises(lows, n) {
-        return false;
-    }
-    if !turning(owners, n) {
+    if !delegation::enough(lows, owners, n)
+        || lows[0] != 0
+        || !columns::rises(lows, n)
+        || !turning(owners, n)
+    {
         return false;
     }
     owned(owners, n, hosts)
@@ -29,14 +24,7 @@ fn turning(owners: &[u64], n: usize) -> bool
     requires { n ≤ length owners.now }
     ensures { Turning owners.now n result }
 {
-    let mut i: usize = 1;
-    while i < n {
-        if owners[i - 1] == owners[i] {
-            return false;
-        }
-        i += 1;
-    }
-    true
+    owners[..n].windows(2).all(|pair| pair[0] != pair[1])
 }
 
 // Is each of the first n owners one of the hosts?
@@ -44,12 +32,5 @@ fn owned(owners: &[u64], n: usize, hosts: usize) -> bool
     requires { n ≤ length owners.now }
     ensures { Owned owners.now n hosts result }
 {
-    let mut i: usize = 0;
-    while i < n {
-        if hosts as u64 <= owners[i] {
-            return false;
-        }
-        i += 1;
-    }
-    true
+    owners[..n].iter().all(|&owner| owner < hosts as u64)
 }

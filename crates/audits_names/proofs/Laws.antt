@@ -1,6 +1,6 @@
 -- Addresses one after the other: memory that keeps some keeps fewer, and one more if it is short enough and new.
 -- Assumes nothing.
-use mathlib.Core.Path.{◌≡◌, refl, sym, ap, ◌∙◌, subst}
+use mathlib.Core.Path.{◌≡◌, refl, sym, ap, ◌∙◌}
 use mathlib.Core.Logic.{⊎_elim}
 use mathlib.Core.Bool.{Bool, true, false, true≢false, false≢true}
 use mathlib.Core.List.{List}
@@ -11,8 +11,7 @@ use native.Mathlib.Omega.{arith}
 use lib.ListN.{length, take, drop, get_or}
 use Rattle.memory.proofs.Parts.{part_taken}
 use Rattle.columns.proofs.Cases.{lt_or_ge}
-use Rattle.peers.specs.declared.Peer.{Peer}
-use Rattle.peers.specs.declared.Peer.TheVariants.{Is, Unknown}
+use Rattle.std.specs.Prelude.{Option, Some, None, is_some, not}
 use Rattle.peers.specs.Names.{Keeps, AfterFind}
 use Rattle.audits_names.specs.Answers.{Valid}
 use Rattle.audits_names.specs.Inner.{name_at, Fresh}
@@ -37,24 +36,18 @@ module _ {lens names : List ℕ} {w : ℕ} where
   pub too_long : {i : ℕ} → w < get_or lens i 0 → Fresh lens names w i false
   too_long {i} h = record { yes = λ e. absurd (false≢true e); no = λ e n N q K. omega (arith, h, K.short i q) }
 
-  -- a peer before it has the address
-  pub had_before : {i j : ℕ} {r : Peer} → AfterFind lens names w i (lent lens names w i) r → r ≡ Is j → Fresh lens names w i false
-  had_before {i} {j} F e = record {
+  -- a peer before it has the address, or none has it
+  pub sought : {i : ℕ} (r : Option ℕ) (b : Bool) → is_some r ≡ not b → AfterFind lens names w i (lent lens names w i) r → get_or lens i 0 ≤ w → Fresh lens names w i b
+  sought {i} (Some j) true e F s = absurd (true≢false e)
+  sought {i} (Some j) false e F s = record {
     yes = λ t. absurd (false≢true t);
     no = λ t n N q K.
-        let f = (subst (λ (r : Peer). AfterFind lens names w i (lent lens names w i) r) e F).is N (keeps_fewer i (omega arith) K) in
+        let f = F.is N (keeps_fewer i (omega arith) K) in
         omega (arith, f.0, K.distinct j i (omega (arith, f.0)) q (f.1 ∙ part_taken names (i * w) (get_or lens i 0) ∙ K.is i q));
   }
-
-  -- none has it
-  pub had_by_none : {i : ℕ} {r : Peer} → AfterFind lens names w i (lent lens names w i) r → r ≡ Unknown → get_or lens i 0 ≤ w → Fresh lens names w i true
-  had_by_none {i} F e s = record {
-    yes = λ t K. (
-      s,
-      λ j q d.
-          (subst (λ (r : Peer). AfterFind lens names w i (lent lens names w i) r) e F).is (name_at lens names w) K j q
-          (d ∙ sym (part_taken names (i * w) (get_or lens i 0))),
-    );
+  sought {i} None false e F s = absurd (false≢true e)
+  sought {i} None true e F s = record {
+    yes = λ t K. (s, λ j q d. F.is (name_at lens names w) K j q (d ∙ sym (part_taken names (i * w) (get_or lens i 0))));
     no = λ t. absurd (true≢false t);
   }
 

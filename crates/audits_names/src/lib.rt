@@ -6,27 +6,17 @@ ghost use Rattle.std.specs.Prelude.{◌+◌, ◌*◌, ◌≤◌, ◌<◌, length
 ghost use Rattle.audits_names.specs.Answers.{Valid};
 ghost use Rattle.audits_names.specs.Inner.{Fresh};
 
-use peers::Peer;
-
 // Does memory keep the addresses of n peers at all?
 pub fn valid(lens: &[u64], names: &[u8], width: usize, n: usize) -> bool
     ensures { Valid lens.now names.now width n result }
 {
-    if width == 0 {
+    if width == 0 || lens.len() < n || names.len() / width < n {
         return false;
     }
-    if lens.len() < n {
-        return false;
-    }
-    if names.len() / width < n {
-        return false;
-    }
-    let mut i: usize = 0;
-    while i < n {
+    for i in 0..n {
         if !fresh(lens, names, width, i) {
             return false;
         }
-        i += 1;
     }
     true
 }
@@ -42,8 +32,5 @@ fn fresh(lens: &[u64], names: &[u8], width: usize, i: usize) -> bool
     }
     let from = i * width;
     let to = from + len;
-    match finding::find(lens, names, width, i, &names[from..to]) {
-        Peer::Is(_) => false,
-        Peer::Unknown => true,
-    }
+    finding::find(lens, names, width, i, &names[from..to]).is_none()
 }

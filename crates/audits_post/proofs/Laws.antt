@@ -11,6 +11,8 @@ use lib.ListN.{length, get_or}
 use lib.Dec.{eqb}
 use borrow.Author.Tests.{eqb-true, eqb-false, eq-eqb}
 use Rattle.columns.proofs.Cases.{lt_or_ge}
+use Rattle.std.specs.Prelude.{Option, Some, None, is_some, not}
+use Rattle.std.specs.Option.{option_eq}
 use Rattle.delivery.specs.Post.{Post}
 use Rattle.delivery.specs.Memory.{Keeps, received_of, acknowledged_of, last_of, capacity, mark_at, number_at, length_at, datagram_at}
 use Rattle.audits_post.specs.Answers.{Valid}
@@ -198,48 +200,47 @@ module _ {counts places : List ℕ} {size n p : ℕ} where
   pub too_high : (mark_at places p ≡ 0 → ⊥) → last_of counts (mark_at places p - 1) < number_at places p → Fits counts places size n p → ⊥
   too_high u h F = omega (arith, h, F.upto (mark_at places p - 1) (peer_is (mark_at places p) u))
 
-  pub first_fits : {r : ℕ} → p < capacity places → (mark_at places p ≡ 0 → ⊥) → mark_at places p - 1 < n → length_at places p ≤ size
+  pub first_fits : (r : Option ℕ) → p < capacity places → (mark_at places p ≡ 0 → ⊥) → mark_at places p - 1 < n → length_at places p ≤ size
       → acknowledged_of counts (mark_at places p - 1) < number_at places p → number_at places p ≤ last_of counts (mark_at places p - 1)
-      → First places (mark_at places p) (number_at places p) r → Tells (Fits counts places size n p) (eqb r p)
-  first_fits {r} b u h s a l F = record {
+      → First places (mark_at places p) (number_at places p) r → Tells (Fits counts places size n p) (option_eq eqb r (Some p))
+  first_fits (Some r) b u h s a l F = record {
     yes = λ e. record {
       peer = λ i m. omega (arith, h, m);
       short = λ i m. s;
       above = λ i m. omega (arith, a, ap (acknowledged_of counts) (of i m));
       upto = λ i m. omega (arith, l, ap (last_of counts) (of i m));
-      new = λ i m q d t. F.before q (omega (arith, d, eqb-true r p e)) (t.0 ∙ sym m, t.1);
+      new = λ i m q d t. F.is.2 q (omega (arith, d, eqb-true r p e)) (t.0 ∙ sym m, t.1);
     };
     no = λ e G.
         ⊎_elim
-        (λ d. F.before p d (refl, refl))
+        (λ d. F.is.2 p d (refl, refl))
         (λ d.
         let c : r < p = omega (arith, d, eqb-false r p e) in
-        let w = F.is (omega (arith, c, b)) in
-        G.new (mark_at places p - 1) (peer_is (mark_at places p) u) r c (w.0 ∙ peer_is (mark_at places p) u, w.1))
+        G.new (mark_at places p - 1) (peer_is (mark_at places p) u) r c (F.is.1.0 ∙ peer_is (mark_at places p) u, F.is.1.1))
         (lt_or_ge p r);
   }
     where
       of : (i : ℕ) → mark_at places p ≡ suc i → mark_at places p - 1 ≡ i
       of i m = omega (arith, m)
+  first_fits None b u h s a l F = failed (λ G. F.is p b (refl, refl))
 
 -- ---- one peer
 
-module _ {places : List ℕ} {i x r : ℕ} (F : First places (i + 1) (x + 1) r) where
+module _ {places : List ℕ} {i x : ℕ} where
   -- the next number has no place
-  pub lacking : {counts : List ℕ} → r ≡ capacity places → acknowledged_of counts i ≤ x → x < last_of counts i → Told counts places i → ⊥
-  lacking {counts} e a l T =
+  pub lacking : {counts : List ℕ} (r : Option ℕ) (b : Bool) → is_some r ≡ not b → b ≡ true → First places (i + 1) (x + 1) r
+      → acknowledged_of counts i ≤ x → x < last_of counts i → Told counts places i → ⊥
+  lacking (Some q) true e t F a l T = true≢false e
+  lacking (Some q) false e t F a l T = false≢true t
+  lacking None b e t F a l T =
       let w = T.all (x + 1) (omega arith) (omega arith) in
-      F.before w.0 (omega (arith, e, w.1)) (omega (arith, w.2.0), w.2.1)
+      F.is w.0 w.1 (omega (arith, w.2.0), w.2.1)
 
   -- .. or it has one
-  pub found : (counts : List ℕ) → (r ≡ capacity places → ⊥)
+  pub found : (counts : List ℕ) (r : Option ℕ) (b : Bool) → is_some r ≡ not b → b ≡ false → First places (i + 1) (x + 1) r
       → ((y : ℕ) → acknowledged_of counts i < y → y ≤ x → (p : ℕ) × (p < capacity places) × Stands places (suc i) y p)
       → (y : ℕ) → acknowledged_of counts i < y → y ≤ x + 1 → (p : ℕ) × (p < capacity places) × Stands places (suc i) y p
-  found counts u h y a b =
-      ⊎_elim
-      (λ d. h y a (omega arith))
-      (λ d.
-      let c : r < capacity places = omega (arith, u, F.within) in
-      let w = F.is c in
-      (r, c, (omega (arith, w.0), omega (arith, w.1))))
-      (lt_or_ge y (x + 1))
+  found counts None true e t F h y a c = absurd (true≢false t)
+  found counts None false e t F h y a c = absurd (false≢true e)
+  found counts (Some q) b e t F h y a c =
+      ⊎_elim (λ d. h y a (omega arith)) (λ d. (q, F.is.0, (omega (arith, F.is.1.0), omega (arith, F.is.1.1)))) (lt_or_ge y (x + 1))

@@ -1,6 +1,6 @@
 -- What the private functions answer. A caller of the crate need not read this.
 -- Assumes nothing.
-use Rattle.std.specs.Prelude.{◌≡◌, Bool, true, false, List, ℕ, suc, ◌≤◌, ◌<◌}
+use Rattle.std.specs.Prelude.{◌≡◌, Bool, true, false, List, ℕ, suc, ◌≤◌, ◌<◌, Option, Some, None}
 use Rattle.delivery.specs.Memory.{acknowledged_of, last_of, capacity, mark_at, number_at, length_at}
 
 -- r says whether A holds
@@ -12,11 +12,13 @@ pub record Tells (A : Type 0) (r : Bool) : Type 0 where
 abbrev pub Stands : List ℕ → ℕ → ℕ → ℕ → Type 0
 Stands places mark x p = (mark_at places p ≡ mark) × (number_at places p ≡ x)
 
--- r is the first such place, or the number of places
-pub record First (places : List ℕ) (mark x r : ℕ) : Type 0 where
-  pub within : r ≤ capacity places
-  pub is : r < capacity places → Stands places mark x r
-  pub before : (p : ℕ) → p < r → Stands places mark x p → ⊥
+-- r is the first such place, or there is none
+abbrev pub FirstCases : Option ℕ → List ℕ → ℕ → ℕ → Type 0
+FirstCases (Some p) places mark x = (p < capacity places) × Stands places mark x p × ((q : ℕ) → q < p → Stands places mark x q → ⊥)
+FirstCases None places mark x = (q : ℕ) → q < capacity places → Stands places mark x q → ⊥
+
+pub record First (places : List ℕ) (mark x : ℕ) (r : Option ℕ) : Type 0 where
+  pub is : FirstCases r places mark x
 
 -- place p is free; or it is for one of the first n peers, its datagram has room, its number is one of a message that waits for that peer, and no
 -- place before it has both

@@ -16,16 +16,10 @@ pub fn valid(counts: &[u64], places: &[u64], mail: &[u8], size: usize, n: usize)
     if size == 0 {
         return false;
     }
-    if counts.len() / WORDS < n {
+    if counts.len() / WORDS < n || mail.len() / size < places.len() / WORDS {
         return false;
     }
-    if mail.len() / size < places.len() / WORDS {
-        return false;
-    }
-    if !all_fit(counts, places, size, n) {
-        return false;
-    }
-    all_told(counts, places, n)
+    all_fit(counts, places, size, n) && all_told(counts, places, n)
 }
 
 // Is each place free, or a message's that waits for one of the first n peers?
@@ -33,12 +27,10 @@ fn all_fit(counts: &[u64], places: &[u64], size: usize, n: usize) -> bool
     requires { n * 3 ≤ length counts.now }
     ensures { Tells (AllFit counts.now places.now size n) result }
 {
-    let mut p: usize = 0;
-    while p < places.len() / WORDS {
+    for p in 0..places.len() / WORDS {
         if !fits(counts, places, size, n, p) {
             return false;
         }
-        p += 1;
     }
     true
 }
@@ -61,29 +53,22 @@ fn fits(counts: &[u64], places: &[u64], size: usize, n: usize, p: usize) -> bool
     if size < places[p * WORDS + 2] as usize {
         return false;
     }
-    if number <= counts[i * WORDS + 1] {
+    if number <= counts[i * WORDS + 1] || counts[i * WORDS + 2] < number {
         return false;
     }
-    if counts[i * WORDS + 2] < number {
-        return false;
-    }
-    first(places, mark, number) == p
+    first(places, mark, number) == Some(p)
 }
 
-// The first place with that mark and number, or the number of places if there is none.
-fn first(places: &[u64], mark: u64, number: u64) -> usize
+// The first place with that mark and number.
+fn first(places: &[u64], mark: u64, number: u64) -> Option<usize>
     ensures { First places.now mark number result }
 {
-    let mut p: usize = 0;
-    while p < places.len() / WORDS {
-        if places[p * WORDS] == mark {
-            if places[p * WORDS + 1] == number {
-                return p;
-            }
+    for p in 0..places.len() / WORDS {
+        if places[p * WORDS] == mark && places[p * WORDS + 1] == number {
+            return Some(p);
         }
-        p += 1;
     }
-    p
+    None
 }
 
 // Does each message that should wait for the first n peers?
@@ -91,12 +76,10 @@ fn all_told(counts: &[u64], places: &[u64], n: usize) -> bool
     requires { n * 3 ≤ length counts.now }
     ensures { Tells (AllTold counts.now places.now n) result }
 {
-    let mut i: usize = 0;
-    while i < n {
+    for i in 0..n {
         if !told(counts, places, i) {
             return false;
         }
-        i += 1;
     }
     true
 }
@@ -107,14 +90,13 @@ fn told(counts: &[u64], places: &[u64], i: usize) -> bool
     requires { i * 3 + 3 ≤ length counts.now }
     ensures { Tells (Told counts.now places.now i) result }
 {
+    let known = counts[i * WORDS + 1];
     let last = counts[i * WORDS + 2];
-    let mut number = counts[i * WORDS + 1];
-    if last < number {
+    if last < known {
         return false;
     }
-    while number < last {
-        number += 1;
-        if first(places, i as u64 + 1, number) == places.len() / WORDS {
+    for number in known..last {
+        if first(places, i as u64 + 1, number + 1).is_none() {
             return false;
         }
     }

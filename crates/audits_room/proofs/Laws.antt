@@ -3,6 +3,7 @@
 use mathlib.Core.Path.{◌≡◌, refl, sym, ap, ◌∙◌, subst}
 use mathlib.Core.Bool.{Bool, true, false, true≢false, false≢true}
 use mathlib.Core.List.{List, []}
+use Rattle.std.specs.Prelude.{Some, None}
 use mathlib.Core.Option.{Option, none, some, some-injective, none-ne-some}
 use Prim.Native.Nat.{ℕ, ◌+◌, ◌-◌, ◌≤◌, ◌<◌}
 use native.Mathlib.Omega.{arith}
@@ -14,12 +15,9 @@ use Rattle.message.specs.Message.{Address, Body, get, Datagram, message, ack}
 use Rattle.message.specs.View.{bytes_of, body_of}
 use Rattle.message.specs.Answers.{AfterParse}
 use Rattle.message.specs.declared.BodyView.{BodyView}
-use Rattle.message.specs.declared.Parsed.{Parsed}
-use Rattle.message.specs.declared.Parsed.TheVariants.{Message, Ack, Invalid}
+use Rattle.message.specs.declared.Parsed.TheVariants.{Message, Ack}
 use Rattle.decoding.specs.Decode.{read}
 use Rattle.decoding.proofs.Laws.{parse_reads}
-use Rattle.peers.specs.declared.Where.{Where}
-use Rattle.peers.specs.declared.Where.TheVariants.{At, Missing}
 use Rattle.peers.specs.Names.{AfterName}
 use Rattle.protocol.specs.State.{Host, Letter}
 use Rattle.hosts.specs.declared.State.{State}
@@ -45,17 +43,11 @@ abbrev is_ack : Datagram → Bool
 is_ack (message x a b) = false
 is_ack (ack x) = true
 
-pub parse_as : {s : List ℕ} {r q : Parsed} → r ≡ q → AfterParse s r → AfterParse s q
-parse_as {s} e A = subst (λ (r : Parsed). AfterParse s r) e A
-
-pub name_as : {lens names : List ℕ} {w i : ℕ} {r s : Where} → r ≡ s → AfterName lens names w i r → AfterName lens names w i s
-name_as {lens} {names} {w} {i} e A = subst (λ (r : Where). AfterName lens names w i r) e A
-
 -- the letter's destination is what was read, and so is its body
-same_message : {s : List ℕ} {n : ℕ} {to : Part} {b : BodyView} → AfterParse s (Message n to b) → (h : Host) (l : Letter)
+same_message : {s : List ℕ} {n : ℕ} {to : Part} {b : BodyView} → AfterParse s (Some (Message n to b)) → (h : Host) (l : Letter)
     → read s ≡ some (message l.number h.me l.body) → message n (bytes_of s to) (body_of s b) ≡ message l.number h.me l.body
 same_message {s} {n} {to} {b} A h l e =
-    some-injective (message n (bytes_of s to) (body_of s b)) (message l.number h.me l.body) (sym (parse_reads s (Message n to b) A) ∙ e)
+    some-injective (message n (bytes_of s to) (body_of s b)) (message l.number h.me l.body) (sym (parse_reads s (Some (Message n to b)) A) ∙ e)
 
 -- ---- the datagram
 
@@ -66,21 +58,21 @@ module _ {lows owners keys slots name_lens names places : List ℕ} {k : State} 
       → Held lows owners keys slots name_lens names places k s false
   no_letter f = record { yes = λ e. absurd (false≢true e); no = λ e. f }
 
-  pub nameless : AfterName name_lens names k.width k.from Missing → Held lows owners keys slots name_lens names places k s false
+  pub nameless : AfterName name_lens names k.width k.from None → Held lows owners keys slots name_lens names places k s false
   nameless A = no_letter (λ lens values counts mail room h l C b I. A.is k.peers C.N C.names_kept b)
 
   -- an Ack is no letter, nor are bytes that are no message
-  pub not_ack : {n : ℕ} → AfterParse s (Ack n) → Held lows owners keys slots name_lens names places k s false
+  pub not_ack : {n : ℕ} → AfterParse s (Some (Ack n)) → Held lows owners keys slots name_lens names places k s false
   not_ack {n} A =
       no_letter (λ lens values counts mail room h l C b I.
-      true≢false (ap is_ack (some-injective (ack n) (message l.number h.me l.body) (sym (parse_reads s (Ack n) A) ∙ I.letter))))
+      true≢false (ap is_ack (some-injective (ack n) (message l.number h.me l.body) (sym (parse_reads s (Some (Ack n)) A) ∙ I.letter))))
 
-  pub not_any : AfterParse s Invalid → Held lows owners keys slots name_lens names places k s false
+  pub not_any : AfterParse s None → Held lows owners keys slots name_lens names places k s false
   not_any A =
       no_letter (λ lens values counts mail room h l C b I.
-      none-ne-some (message l.number h.me l.body) (sym (parse_reads s Invalid A) ∙ I.letter))
+      none-ne-some (message l.number h.me l.body) (sym (parse_reads s None A) ∙ I.letter))
 
-  module _ {n : ℕ} {to : Part} {b : BodyView} (A : AfterParse s (Message n to b)) where
+  module _ {n : ℕ} {to : Part} {b : BodyView} (A : AfterParse s (Some (Message n to b))) where
     module _ {t : Bool} (O : Own name_lens names k (take (to.at + to.len - to.at) (drop to.at s)) t) where
       pub not_mine : t ≡ false → Held lows owners keys slots name_lens names places k s false
       not_mine f =
@@ -88,7 +80,7 @@ module _ {lows owners keys slots name_lens names places : List ℕ} {k : State} 
           O.other f lows owners keys slots lens values counts places mail h C
           (part_taken s to.at to.len ∙ ap address_in (same_message A h l I.letter)))
 
-      pub tested : t ≡ true → {x y : ℕ} → AfterName name_lens names k.width k.from (At x y) → {r : Bool}
+      pub tested : t ≡ true → {x y : ℕ} → AfterName name_lens names k.width k.from (Some (x, y)) → {r : Bool}
           → Tested lows owners keys slots name_lens names places k (part names x (y - x)) s b r → Held lows owners keys slots name_lens names places k s r
       tested f {x} {y} N {r} T = record {
         yes = λ e. (
@@ -98,7 +90,7 @@ module _ {lows owners keys slots name_lens names places : List ℕ} {k : State} 
               sym (part_taken s to.at to.len) ∙ O.yes f lows owners keys slots lens values counts places mail h C in
               record {
                 from = refl;
-                letter = parse_reads s (Message n to b) A ∙ ap (λ (c : Address). some (message n c (body_of s b))) mine;
+                letter = parse_reads s (Some (Message n to b)) A ∙ ap (λ (c : Address). some (message n c (body_of s b))) mine;
                 needs = T.roomy e lens values counts mail room h
                     (record { from = name_at name_lens names k.width k.from; number = n; body = body_of s b }) C
                     (C.names_kept.is k.from q ∙ sym (N.is.2 k.peers C.N C.names_kept q))
@@ -135,18 +127,15 @@ module _ {m : Memory} {k : State} {room : List ℕ} where
   no_peer p h = unfit p (λ a b. omega arith)
 
 pub letter_held : {lows owners keys slots name_lens names places : List ℕ} {k : State} {room : List ℕ} {r : Bool} → 0 < k.len → k.len ≤ length room
-    → k.from < k.peers → Held lows owners keys slots name_lens names places k (take (k.len - 0) (drop 0 room)) r → (lens values counts mail : List ℕ)
+    → k.from < k.peers → Held lows owners keys slots name_lens names places k (take k.len room) r → (lens values counts mail : List ℕ)
     → Valid (memory lows owners keys slots lens values name_lens names counts places mail) k room r
 letter_held {lows} {owners} {keys} {slots} {name_lens} {names} {places} {k} {room} {r} p l b H lens values counts mail = record {
-  yes = λ e. let w = H.yes e in (some w.0, λ h C. let I = w.1 lens values counts mail room h C b in (p, l, b, I.from, sym (ap read front) ∙ I.letter, I.needs));
+  yes = λ e. let w = H.yes e in (some w.0, λ h C. let I = w.1 lens values counts mail room h C b in (p, l, b, I.from, I.letter, I.needs));
   no = λ e o h C R. go e h o C R;
 }
   where
-    front : take (k.len - 0) (drop 0 room) ≡ take k.len room
-    front = let e : k.len - 0 ≡ k.len = omega arith in ap (λ (n : ℕ). take n room) e
-
     go : r ≡ false → (h : Host) (o : Option Letter) → Core (memory lows owners keys slots lens values name_lens names counts places mail) k h
         → RoomCases (memory lows owners keys slots lens values name_lens names counts places mail) k room h o → ⊥
     go e h none C z = omega (arith, p, z)
     go e h (some x) C R =
-        H.no e lens values counts mail room h x C b (record { from = R.3; letter = ap read front ∙ R.4; needs = R.5 })
+        H.no e lens values counts mail room h x C b (record { from = R.3; letter = R.4; needs = R.5 })

@@ -7,88 +7,53 @@ ghost use Rattle.audits_room.specs.Answers.{Valid};
 ghost use Rattle.audits_room.specs.Inner.{Held};
 
 use hosts::State;
+use lent::{Index, Map, Strings};
 use message::Parsed;
-use peers::Where;
 
 // Is the room free, or the datagram in it a message for this host from a peer, and what it needs there?
 pub fn valid(
-    lows: &[u64],
-    owners: &[u64],
-    keys: &[u64],
-    slots: &[u64],
-    name_lens: &[u64],
-    names: &[u8],
+    map: Map<&[u64]>,
+    index: Index<&[u64]>,
+    names: Strings<&[u64], &[u8]>,
     places: &[u64],
     room: &[u8],
     k: State,
 ) -> bool
-    ensures { (lens values counts mail : List ℕ) → Valid (memory lows.now owners.now keys.now slots.now lens values name_lens.now names.now counts places.now mail)
+    ensures { (lens values counts mail : List ℕ) → Valid
+        (memory map.entry.lows.now map.entry.owners.now index.entry.keys.now index.entry.slots.now lens values names.entry.lens.now names.entry.bytes.now counts places.now mail)
         k room.now result }
 {
     if k.len == 0 {
         return true;
     }
-    if room.len() < k.len {
+    if room.len() < k.len || k.peers <= k.from {
         return false;
     }
-    if k.peers <= k.from {
-        return false;
-    }
-    let end = k.len;
-    held(
-        lows,
-        owners,
-        keys,
-        slots,
-        name_lens,
-        names,
-        places,
-        k,
-        &room[0..end],
-    )
+    held(map, index, names, places, k, &room[..k.len])
 }
 
 // Is the datagram s a message for this host, and what it needs there, if it came from peer `k.from`?
 fn held(
-    lows: &[u64],
-    owners: &[u64],
-    keys: &[u64],
-    slots: &[u64],
-    name_lens: &[u64],
-    names: &[u8],
+    map: Map<&[u64]>,
+    index: Index<&[u64]>,
+    names: Strings<&[u64], &[u8]>,
     places: &[u64],
     k: State,
     s: &[u8],
 ) -> bool
-    ensures { Held lows.now owners.now keys.now slots.now name_lens.now names.now places.now k s.now result }
+    ensures { Held map.entry.lows.now map.entry.owners.now index.entry.keys.now index.entry.slots.now names.entry.lens.now names.entry.bytes.now places.now k s.now result }
 {
-    let Where::At(a, b) = peers::name(name_lens, names, k.width, k.from) else {
+    let Some((a, b)) = peers::name(names.lens, names.bytes, k.width, k.from) else {
         return false;
     };
-    let parsed = parsing::parse(s);
-    match parsed {
-        Parsed::Message(_, to, body) => {
-            let at = to.at;
-            let end = at + to.len;
-            if !hearing::own(name_lens, names, k, &s[at..end]) {
+    match parsing::parse(s) {
+        Some(Parsed::Message(_, to, body)) => {
+            if !hearing::own(names, k, &s[to.at..to.at + to.len]) {
                 return false;
             }
-            let verdict = rooms::roomy(
-                lows,
-                owners,
-                keys,
-                slots,
-                name_lens,
-                names,
-                places,
-                k,
-                &names[a..b],
-                s,
-                body,
-            );
-            verdict.room
+            rooms::roomy(map, index, names, places, k, &names.bytes[a..b], s, body).is_some()
         }
-        Parsed::Ack(_) => false,
-        Parsed::Invalid => false,
+        Some(Parsed::Ack(_)) => false,
+        None => false,
     }
 }

@@ -2,6 +2,7 @@
 -- Assumes nothing.
 use mathlib.Core.Path.{◌≡◌, sym, subst}
 use mathlib.Core.List.{List}
+use Rattle.std.specs.Prelude.{Option, Some, None}
 use Prim.Native.Nat.{ℕ, ◌+◌, ◌<◌}
 use lib.ListN.{length, get_or}
 use Rattle.format.specs.Format.{Of}
@@ -9,18 +10,14 @@ use Rattle.format.specs.Place.{Stands}
 use Rattle.format.proofs.Reading.{choice_found, choice_lacks}
 use Rattle.message.specs.Table.{bodies, fields, body}
 use Rattle.bodies.specs.Answers.{FieldsCases, BodyCases, ReadFields, ReadBody}
-use Rattle.bodies.specs.declared.BodyRead.{BodyRead}
-use Rattle.bodies.specs.declared.BodyRead.TheVariants.{Is, Missing}
-
-pub body_as : {s : List ℕ} {at : ℕ} {r q : BodyRead} → r ≡ q → ReadBody s at r → ReadBody s at q
-body_as {s} {at} e A = subst (λ (x : BodyRead). ReadBody s at x) e A
+use Rattle.message.specs.declared.BodyView.{BodyView}
 
 -- the fields that are read behind a body's byte are the body's
-pub body_row : (t : ℕ) {s : List ℕ} {at : ℕ} (r : BodyRead) → at < length s → get_or s at 0 ≡ t → t < length bodies → ReadFields t s (at + 1) r
+pub body_row : (t : ℕ) {s : List ℕ} {at : ℕ} (r : Option (BodyView × ℕ)) → at < length s → get_or s at 0 ≡ t → t < length bodies → ReadFields t s (at + 1) r
     → ReadBody s at r
 body_row t {s} {at} r h e q A = record { is = go r A.is }
   where
-    go : (r : BodyRead) → FieldsCases t s (at + 1) r → BodyCases s at r
-    go (Is b next) (v, p, k, i) =
+    go : (r : Option (BodyView × ℕ)) → FieldsCases t s (at + 1) r → BodyCases s at r
+    go (Some (b, next)) (v, p, k, i) =
         (subst (λ (x : Of body). Stands body s at x next) (sym p) (choice_found s at (length bodies) fields h e q k), i)
-    go Missing k = choice_lacks s at (length bodies) fields t e k
+    go None k = choice_lacks s at (length bodies) fields t e k

@@ -1,25 +1,24 @@
 -- What the readers of bodies answer: a body stands at the place and the view describes it, or none is written there.
 -- Assumes nothing.
-use Rattle.std.specs.Prelude.{◌≡◌, List, ℕ}
+use Rattle.std.specs.Prelude.{◌≡◌, List, ℕ, Option, Some, None}
 use Rattle.format.specs.Format.{Of}
 use Rattle.format.specs.Place.{Stands, Lacks}
 use Rattle.message.specs.Table.{fields, body, body_value}
 use Rattle.message.specs.View.{body_of, BodyIn}
-use Rattle.bodies.specs.declared.BodyRead.{BodyRead}
-use Rattle.bodies.specs.declared.BodyRead.TheVariants.{Is as IsBody, Missing as NoBody}
+use Rattle.message.specs.declared.BodyView.{BodyView}
 
 -- the fields of the body with the byte t, behind that byte
-abbrev pub FieldsCases : ℕ → List ℕ → ℕ → BodyRead → Type 0
-FieldsCases t s at (IsBody b next) =
+abbrev pub FieldsCases : ℕ → List ℕ → ℕ → Option (BodyView × ℕ) → Type 0
+FieldsCases t s at (Some (b, next)) =
     (v : Of (fields t)) × (body_value (body_of s b) ≡ (t, v)) × Stands (fields t) s at v next × BodyIn s b
-FieldsCases t s at NoBody = Lacks (fields t) s at
+FieldsCases t s at None = Lacks (fields t) s at
 
-pub record ReadFields (t : ℕ) (s : List ℕ) (at : ℕ) (r : BodyRead) : Type 0 where
+pub record ReadFields (t : ℕ) (s : List ℕ) (at : ℕ) (r : Option (BodyView × ℕ)) : Type 0 where
   pub is : FieldsCases t s at r
 
-abbrev pub BodyCases : List ℕ → ℕ → BodyRead → Type 0
-BodyCases s at (IsBody b next) = Stands body s at (body_value (body_of s b)) next × BodyIn s b
-BodyCases s at NoBody = Lacks body s at
+abbrev pub BodyCases : List ℕ → ℕ → Option (BodyView × ℕ) → Type 0
+BodyCases s at (Some (b, next)) = Stands body s at (body_value (body_of s b)) next × BodyIn s b
+BodyCases s at None = Lacks body s at
 
-pub record ReadBody (s : List ℕ) (at : ℕ) (r : BodyRead) : Type 0 where
+pub record ReadBody (s : List ℕ) (at : ℕ) (r : Option (BodyView × ℕ)) : Type 0 where
   pub is : BodyCases s at r

@@ -10,13 +10,9 @@ use delivery::WORDS;
 pub fn clear(places: &mut [u64], mark: u64, x: u64)
     ensures { Cleared places.old mark x places.new }
 {
-    let mut p: usize = 0;
-    while p < places.len() / WORDS {
-        if places[p * WORDS] == mark {
-            if places[p * WORDS + 1] <= x {
-                places[p * WORDS] = 0;
-            }
+    for p in 0..places.len() / WORDS {
+        if places[p * WORDS] == mark && places[p * WORDS + 1] <= x {
+            places[p * WORDS] = 0;
         }
-        p += 1;
     }
 }

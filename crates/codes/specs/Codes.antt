@@ -1,15 +1,15 @@
 -- What the exported functions answer: outcomes as fixed numbers, and the place of the datagram to send.
 -- Assumes nothing.
-use Rattle.std.specs.Prelude.{Bool, true, false, ℕ, ◌-◌}
+use Rattle.std.specs.Prelude.{Bool, true, false, ℕ, ◌-◌, Result, Ok, Err}
 use Rattle.limits.specs.Limits.{numbers as allNumbers}
 use Rattle.hosts.specs.declared.Processed.{Processed}
 use Rattle.hosts.specs.declared.Processed.TheVariants.{Idle, Stuck, Replied, Redirected, Dropped, Unnumbered, Accepted, Handed}
-use Rattle.starting.specs.declared.Started.{Started}
-use Rattle.starting.specs.declared.Started.TheVariants.{Now, NoHost, Unfit as NotStarted}
+use Rattle.hosts.specs.declared.State.{State}
+use Rattle.limits.specs.declared.NoRoom.{NoRoom}
+use Rattle.starting.specs.declared.Refused.{Refused}
+use Rattle.starting.specs.declared.Refused.TheVariants.{NoHost, Unfit as NotStarted}
 use Rattle.incoming.specs.declared.Received.{Received}
 use Rattle.incoming.specs.declared.Received.TheVariants.{Full, Invalid, Elsewhere, Taken, Unreceived, Again, Future, Arrived, Stale, Unfit as TooShort}
-use Rattle.repeating.specs.declared.Repeated.{Repeated}
-use Rattle.repeating.specs.declared.Repeated.TheVariants.{Places, NoRoom}
 use Rattle.rounds.specs.declared.Turned.{Turned}
 use Rattle.rounds.specs.declared.Turned.TheVariants.{Came, Did, Resent, Waits, Unfit as NotLent}
 
@@ -17,10 +17,10 @@ use Rattle.rounds.specs.declared.Turned.TheVariants.{Came, Did, Resent, Waits, U
 abbrev pub unfit : ℕ
 unfit = 2
 
-abbrev pub started_code : Started → ℕ
-started_code (Now k) = 0
-started_code NoHost = 1
-started_code NotStarted = unfit
+abbrev pub started_code : Result State Refused → ℕ
+started_code (Ok k) = 0
+started_code (Err NoHost) = 1
+started_code (Err NotStarted) = unfit
 
 abbrev pub received_code : Received → ℕ
 received_code Full = 10
@@ -59,9 +59,9 @@ processed_place_of (Handed p) = p
 abbrev pub no_places : ℕ
 no_places = allNumbers - 1
 
-abbrev pub repeated_code : Repeated → ℕ
-repeated_code (Places n) = n
-repeated_code NoRoom = no_places
+abbrev pub repeated_code : Result ℕ NoRoom → ℕ
+repeated_code (Ok n) = n
+repeated_code (Err e) = no_places
 
 abbrev pub turned_code : Turned → ℕ
 turned_code (Came r) = received_code r

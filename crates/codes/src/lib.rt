@@ -6,7 +6,7 @@ ghost use Rattle.codes.specs.Codes.{received_code, processed_code, processed_pla
 
 use hosts::Processed;
 use incoming::Received;
-use repeating::Repeated;
+use limits::NoRoom;
 use rounds::Turned;
 
 // A host was started.
@@ -66,24 +66,22 @@ pub fn processed_place(o: Processed) -> u64
     ensures { result ≡ processed_place_of o }
 {
     match o {
-        Processed::Idle => 0,
-        Processed::Stuck => 0,
-        Processed::Replied(p) => p as u64,
-        Processed::Redirected(p) => p as u64,
-        Processed::Dropped => 0,
-        Processed::Unnumbered => 0,
-        Processed::Accepted => 0,
-        Processed::Handed(p) => p as u64,
+        Processed::Replied(p) | Processed::Redirected(p) | Processed::Handed(p) => p as u64,
+        Processed::Idle
+        | Processed::Stuck
+        | Processed::Dropped
+        | Processed::Unnumbered
+        | Processed::Accepted => 0,
     }
 }
 
 // How many places were written down.
-pub fn repeated(r: Repeated) -> u64
+pub fn repeated(r: Result<usize, NoRoom>) -> u64
     ensures { result ≡ repeated_code r }
 {
     match r {
-        Repeated::Places(n) => n as u64,
-        Repeated::NoRoom => NO_PLACES,
+        Ok(n) => n as u64,
+        Err(_) => NO_PLACES,
     }
 }
 
@@ -108,8 +106,7 @@ pub fn turned_place(o: Turned, hint: usize) -> u64
         Turned::Came(_) => hint as u64,
         Turned::Did(r) => processed_place(r),
         Turned::Resent(n) => n as u64,
-        Turned::Waits => 0,
-        Turned::Unfit => 0,
+        Turned::Waits | Turned::Unfit => 0,
     }
 }
 
@@ -117,8 +114,5 @@ pub fn turned_place(o: Turned, hint: usize) -> u64
 pub fn audited(b: bool) -> u64
     ensures { result ≡ audited_code b }
 {
-    if b {
-        return HOST;
-    }
-    KEEPS_NONE
+    if b { HOST } else { KEEPS_NONE }
 }

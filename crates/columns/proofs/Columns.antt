@@ -1,31 +1,36 @@
--- The laws of columns: what a turn of each loop does, and what stands at each place after an insertion and after a cut.
+-- The laws of columns: what a move within the column makes of it, and what stands at each place after an insertion and after a cut.
 -- Assumes nothing.
 use mathlib.Core.Path.{◌≡◌, sym, ap, ◌∙◌}
 use mathlib.Core.Logic.{⊎_elim}
-use mathlib.Core.List.{List, [], ◌∷◌, ◌++◌, append_assoc}
-use Prim.Native.Nat.{ℕ, suc, ◌+◌, ◌-◌, ◌≤◌, ◌<◌}
+use mathlib.Core.List.{List, ◌∷◌, ◌++◌, append_assoc}
+use Prim.Native.Nat.{ℕ, zero, suc, ◌+◌, ◌-◌, ◌≤◌, ◌<◌}
 use native.Mathlib.Omega.{arith}
+use native.Mathlib.Numerals.{add-one}
 use Rattle.columns.proofs.Cases.{lt_or_ge}
 use lib.ListN.{length, take, drop, get_or, set, length-append, length-drop, get_or-append}
-use lib.Seq.{slice, take-suc-set, take-set-lt, drop-set-lt, slice-cons, slice_empty, set_split, take-take, length-take-le, length-slice, get_or-append-add, get_or-take, get_or-drop}
-use lib.ListN.{take-append-drop}
+use Rattle.std.specs.List.{copy_within}
+use Rattle.std.proofs.lemmas.List.{drop-take}
+use lib.Seq.{slice, set_split, take-append-le, take-take, drop_at, length-take-le, length-slice, get_or-append-add, get_or-take, get_or-drop}
 use Rattle.columns.specs.Column.{inserted, without, Rising, Splits}
 
 -- ---- insertion
 
--- a turn: x stored at j, and what stood there carried on, is x inserted at j
-pub insert_turn : (c : List ℕ) (n j x : ℕ) → j < n → n < length c → inserted (set c j x) n (suc j) (get_or c j 0) ≡ inserted c n j x
-insert_turn c n j x h l =
-    let jl : j < length c = omega arith in
-    let js : j < suc j = omega arith in
-    let jn : j < suc n = omega arith in
-    let nl : n ≤ length c = omega arith in
-    rw (take-suc-set c j x jl, take-set-lt n c j x h, drop-set-lt (suc j) (take n c) j x js, drop-set-lt (suc n) c j x jn, slice-cons j n c 0 h nl)
-    (append_assoc (take j c) (x ∷ []) (get_or c j 0 ∷ (slice (suc j) n c ++ drop (suc n) c)))
+-- a move within the column takes the part that it names
+moved_part : (c : List ℕ) (i n : ℕ) → i ≤ n → take (n - i) (drop i c) ≡ slice i n c
+moved_part c i n h = let e : i + (n - i) ≡ n = omega arith in sym (drop-take i (n - i) c) ∙ ap (λ (k : ℕ). drop i (take k c)) e
 
--- the last store
-pub insert_end : (c : List ℕ) (n x : ℕ) → n < length c → set c n x ≡ inserted c n n x
-insert_end c n x l = set_split c n x l ∙ rw (slice_empty n c)
+-- those from `at` up to n moved up by one, and v stored at `at`
+pub insert_moved : (c : List ℕ) (n at v : ℕ) → at ≤ n → n < length c → set (copy_within c at n (at + 1)) at v ≡ inserted c n at v
+insert_moved c n at v h l =
+    let p : List ℕ = take (at + 1) c in
+    let q : List ℕ = slice at n c ++ drop (at + 1 + (n - at)) c in
+    let pl : length p ≡ suc at = omega (arith, length-take-le (at + 1) c (omega arith)) in
+    let ql : at ≤ length p = omega arith in
+    let il : at < length (p ++ q) = omega (arith, length-append p q) in
+    let e : at + 1 + (n - at) ≡ suc n = omega arith in
+    let t : take at (p ++ q) ≡ take at c = take-append-le at p q ql ∙ take-take at (at + 1) c (omega arith) in
+    let d : drop (suc at) (p ++ q) ≡ q = drop_at p q (suc at) pl in
+    rw (moved_part c at n h, append_assoc p (slice at n c) (drop (at + 1 + (n - at)) c)) (set_split (p ++ q) at v il ∙ rw (t, d, e))
 
 pub length_inserted : (c : List ℕ) (n at v : ℕ) → at ≤ n → n < length c → length (inserted c n at v) ≡ length c
 length_inserted c n at v h l =
@@ -72,29 +77,9 @@ module _ (c : List ℕ) (n at v : ℕ) (h : at ≤ n) (l : n < length c) where
 
 -- ---- a cut
 
--- nothing is cut
-pub cut_none : (c : List ℕ) (n i : ℕ) → i ≤ n → n ≤ length c → without c n i i ≡ c
-cut_none c n i h l =
-    let e : i + (n - i) ≡ n = omega arith in
-    rw (e, ← append_assoc (take i c) (slice i n c) (drop n c), ← take-take i n c h, take-append-drop i (take n c))
-    (take-append-drop n c)
-
--- a turn: the next one after the gap stored at its start
-pub cut_turn : (c : List ℕ) (n to from : ℕ) → to < from → from < n → n ≤ length c
-    → without (set c to (get_or c from 0)) n (suc to) (suc from) ≡ without c n to from
-cut_turn c n to from g h l =
-    let tl : to < length c = omega arith in
-    let tn : to < n = omega arith in
-    let tf : to < suc from = omega arith in
-    let td : to < suc to + (n - suc from) = omega arith in
-    let e : suc to + (n - suc from) ≡ to + (n - from) = omega arith in
-    let y : ℕ = get_or c from 0 in
-    rw (take-suc-set c to y tl, take-set-lt n c to y tn, drop-set-lt (suc from) (take n c) to y tf, drop-set-lt (suc to + (n - suc from)) c to y td, e, slice-cons from n c 0 h l)
-    (append_assoc (take to c) (y ∷ []) (slice (suc from) n c ++ drop (to + (n - from)) c))
-
--- nothing is left to move
-pub cut_end : (c : List ℕ) (n to : ℕ) → without c n to n ≡ c
-cut_end c n to = let e : to + (n - n) ≡ to = omega arith in rw (e, slice_empty n c) (take-append-drop to c)
+-- those from j up to n moved down to i
+pub cut_moved : (c : List ℕ) (n i j : ℕ) → j ≤ n → copy_within c j n i ≡ without c n i j
+cut_moved c n i j h = rw (moved_part c j n h) (append_assoc (take i c) (slice j n c) (drop (i + (n - j)) c))
 
 pub length_without : (c : List ℕ) (n i j : ℕ) → i ≤ j → j ≤ n → n ≤ length c → length (without c n i j) ≡ length c
 length_without c n i j h k l =
@@ -141,32 +126,10 @@ splits_mono c n k m r s h p q = ⊎_elim (λ w. absurd (less w)) (λ w. w) (lt_o
         let sl : s ≤ s = omega arith in
         omega (arith, q.high s sl sn, p.low s w)
 
--- a key that is not the last of those at or below it is not there
-pub splits_absent : (c : List ℕ) (n k r : ℕ) → Rising c n → Splits c n k r → (0 < r → get_or c (r - 1) 0 ≡ k → ⊥) → (x : ℕ) → x < n → get_or c x 0 ≡ k → ⊥
-splits_absent c n k r R S h x q e =
-    ⊎_elim
-    (λ w. ⊎_elim
-    (λ u. omega (arith, R x (r - 1) u (omega (arith, S.within)), S.low (r - 1) (omega arith)))
-    (λ u. let f : r - 1 ≡ x = omega arith in h (omega arith) (ap (λ (t : ℕ). get_or c t 0) f ∙ e))
-    (lt_or_ge x (r - 1)))
-    (λ w. omega (arith, S.high x w q))
-    (lt_or_ge x r)
-
--- what the middle element tells of those on one side of it
-pub half_low : (c : List ℕ) (n k mid : ℕ) → Rising c n → mid < n → get_or c mid 0 ≤ k → (i : ℕ) → i < mid + 1 → get_or c i 0 ≤ k
-half_low c n k mid r m h i p =
-    ⊎_elim (λ w. omega (arith, r i mid w m)) (λ w. let e : i ≡ mid = omega arith in rw e h) (lt_or_ge i mid)
-
-pub half_high : (c : List ℕ) (n k mid : ℕ) → Rising c n → k < get_or c mid 0 → (i : ℕ) → mid ≤ i → i < n → k < get_or c i 0
-half_high c n k mid r h i p q =
-    ⊎_elim (λ w. omega (arith, r mid i w q)) (λ w. let e : i ≡ mid = omega arith in rw e h) (lt_or_ge mid i)
-
--- one more that lies above the last
-pub rising_more : (c : List ℕ) (i : ℕ) → 1 ≤ i → Rising c i → get_or c (i - 1) 0 < get_or c i 0 → Rising c (i + 1)
-rising_more c i p r h a b ab bi = ⊎_elim (λ w. r a b ab w) (λ w. last (let e : b ≡ i = omega arith in e)) (lt_or_ge b i)
+-- neighbours that rise make a column that rises
+pub rising_next : (c : List ℕ) (n : ℕ) → ((k : ℕ) → k + 1 < n → get_or c k 0 < get_or c (k + 1) 0) → Rising c n
+rising_next c n h a b ab bn = go b ab bn
   where
-    below : get_or c a 0 < get_or c i 0
-    below = ⊎_elim (λ w. omega (arith, r a (i - 1) w (omega arith))) (λ w. let e : a ≡ i - 1 = omega arith in rw e h) (lt_or_ge a (i - 1))
-
-    last : b ≡ i → get_or c a 0 < get_or c b 0
-    last e = rw e below
+    go : (b : ℕ) → a < b → b < n → get_or c a 0 < get_or c b 0
+    go zero p q = absurd (omega arith)
+    go (suc b) p q = let s : get_or c b 0 < get_or c (suc b) 0 = rw add-one at (h b (omega arith)) in ⊎_elim (λ w. omega (arith, go b w (omega arith), s)) (λ w. let e : a ≡ b = omega arith in rw e s) (lt_or_ge a b)

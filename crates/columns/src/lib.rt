@@ -10,21 +10,11 @@ ghost use Rattle.columns.specs.Column.{Inserted, Cut, Rises};
 pub fn insert(column: &mut [u64], n: usize, at: usize, v: u64) -> bool
     ensures { Inserted column.old n at v result column.new }
 {
-    if column.len() <= n {
+    if column.len() <= n || n < at {
         return false;
     }
-    if n < at {
-        return false;
-    }
-    let mut x = v;
-    let mut j = at;
-    while j < n {
-        let y = column[j];
-        column[j] = x;
-        x = y;
-        j += 1;
-    }
-    column[n] = x;
+    column.copy_within(at..n, at + 1);
+    column[at] = v;
     true
 }
 
@@ -32,25 +22,10 @@ pub fn insert(column: &mut [u64], n: usize, at: usize, v: u64) -> bool
 pub fn cut(column: &mut [u64], n: usize, i: usize, j: usize) -> bool
     ensures { Cut column.old n i j result column.new }
 {
-    if column.len() < n {
+    if column.len() < n || n < j || j < i {
         return false;
     }
-    if n < j {
-        return false;
-    }
-    if j < i {
-        return false;
-    }
-    if i == j {
-        return true;
-    }
-    let mut to = i;
-    let mut from = j;
-    while from < n {
-        column[to] = column[from];
-        to += 1;
-        from += 1;
-    }
+    column.copy_within(j..n, i);
     true
 }
 
@@ -58,15 +33,5 @@ pub fn cut(column: &mut [u64], n: usize, i: usize, j: usize) -> bool
 pub fn rises(column: &[u64], n: usize) -> bool
     ensures { Rises column.now n result }
 {
-    if column.len() < n {
-        return false;
-    }
-    let mut i: usize = 1;
-    while i < n {
-        if column[i] <= column[i - 1] {
-            return false;
-        }
-        i += 1;
-    }
-    true
+    column.len() >= n && column[..n].is_sorted_by(|a, b| a < b)
 }

@@ -7,31 +7,24 @@ ghost use Rattle.message.specs.Message.{message, ack, get};
 ghost use Rattle.message.specs.Answers.{AfterWrite};
 
 use format::WIDTH;
-use fronts::Start;
-use message::Written;
+use message::Refused;
 
 // The Ack of a message's number.
-pub fn ack(n: u64, d: &mut [u8]) -> Written
+pub fn ack(n: u64, d: &mut [u8]) -> Result<usize, Refused>
     ensures { AfterWrite (ack n) d.old result d.new }
 {
     if d.len() < 1 + WIDTH {
-        return Written::NoRoom;
+        return Err(Refused::NoRoom);
     }
     writing::byte(1, d, 0);
     writing::number(n, d, 1);
-    Written::Bytes(1 + WIDTH)
+    Ok(1 + WIDTH)
 }
 
-pub fn get(n: u64, to: &[u8], key: u64, d: &mut [u8]) -> Written
+pub fn get(n: u64, to: &[u8], key: u64, d: &mut [u8]) -> Result<usize, Refused>
     ensures { AfterWrite (message n to.now (get key)) d.old result d.new }
 {
-    let begun = fronts::begin(n, to, 0, WIDTH, d);
-    match begun {
-        Start::At(at) => {
-            writing::number(key, d, at);
-            Written::Bytes(at + WIDTH)
-        }
-        Start::NoRoom => Written::NoRoom,
-        Start::Invalid => Written::Invalid,
-    }
+    let at = fronts::begin(n, to, 0, WIDTH, d)?;
+    writing::number(key, d, at);
+    Ok(at + WIDTH)
 }

@@ -3,7 +3,7 @@
 use mathlib.Core.Path.{◌≡◌, refl, sym, ap, ◌∙◌, subst}
 use mathlib.Core.Logic.{⊎_elim, ◌⊎◌, inl, inr}
 use mathlib.Core.List.{List, []}
-use Prim.Native.Nat.{ℕ, suc, ◌+◌, ◌-◌, ◌*◌, ◌/◌, ◌≤◌, ◌<◌}
+use Prim.Native.Nat.{ℕ, suc, max, ◌+◌, ◌-◌, ◌*◌, ◌/◌, ◌≤◌, ◌<◌}
 use native.Mathlib.Numerals.{add-one}
 use native.Mathlib.Omega.{arith}
 use lib.ListN.{length, drop, get_or, set, length-set, length-drop}
@@ -135,24 +135,17 @@ module _ (counts : List ℕ) (i x : ℕ) (within : i < length counts / 3) where
   one_last : last_of one i ≡ last_of counts i
   one_last = get_or-set_other counts (i * 3 + 1) (i * 3 + 2) x 0 (λ d. omega arith)
 
-  -- the last number is not below x, or it is and becomes x
-  pub told_kept : x ≤ last_of one i → Told counts i x one
-  told_kept h = record {
-    long = one_long;
-    rest = λ k a b. get_or-set_other counts (i * 3 + 1) k x 0 a;
-    acknowledged = one_ack;
-    kept = λ l. one_last;
-    raised = λ l. absurd (omega (arith, h, one_last));
-  }
-
-  pub told_raised : last_of one i < x → Told counts i x (set one (i * 3 + 2) x)
-  told_raised h = record {
-    long = length-set one (i * 3 + 2) x ∙ one_long;
-    rest = λ k a b. get_or-set_other one (i * 3 + 2) k x 0 b ∙ get_or-set_other counts (i * 3 + 1) k x 0 a;
-    acknowledged = get_or-set_other one (i * 3 + 2) (i * 3 + 1) x 0 (λ d. omega arith) ∙ one_ack;
-    kept = λ l. absurd (omega (arith, h, one_last));
-    raised = λ l. get_or-set_same one (i * 3 + 2) x 0 (omega (arith, one_long));
-  }
+  -- the last number is the greater of what it was and x
+  pub told : (y : ℕ) → y ≡ max (last_of one i) x → Told counts i x (set one (i * 3 + 2) y)
+  told y e =
+      let last : last_of (set one (i * 3 + 2) y) i ≡ y = get_or-set_same one (i * 3 + 2) y 0 (omega (arith, one_long)) in
+      record {
+        long = length-set one (i * 3 + 2) y ∙ one_long;
+        rest = λ k a b. get_or-set_other one (i * 3 + 2) k y 0 b ∙ get_or-set_other counts (i * 3 + 1) k x 0 a;
+        acknowledged = get_or-set_other one (i * 3 + 2) (i * 3 + 1) y 0 (λ d. omega arith) ∙ one_ack;
+        kept = λ l. omega (arith, last, e, one_last, l);
+        raised = λ l. omega (arith, last, e, one_last, l);
+      }
 
 module _ (counts places mail : List ℕ) (size n : ℕ) (P : Post) (K : Keeps counts places mail size n P) (i x : ℕ) (peer : i < n)
     (new : P.acknowledged i < x) (counts' places' : List ℕ) (N : Told counts i x counts') (C : Cleared places (i + 1) x places') where

@@ -15,9 +15,7 @@ pub fn confirm(counts: &mut [u64], places: &mut [u64], peer: usize, number: u64)
     }
     let before = counts[peer * WORDS + 1];
     counts[peer * WORDS + 1] = number;
-    if counts[peer * WORDS + 2] < number {
-        counts[peer * WORDS + 2] = number;
-    }
+    counts[peer * WORDS + 2] = counts[peer * WORDS + 2].max(number);
     release(places, peer as u64 + 1, before, number);
 }
 
@@ -26,27 +24,21 @@ pub fn confirm(counts: &mut [u64], places: &mut [u64], peer: usize, number: u64)
 fn release(places: &mut [u64], mark: u64, before: u64, x: u64)
     ensures { Released places.old mark before x places.new }
 {
-    if before < x {
-        if x - before == 1 {
-            free(places, mark, x);
-            return;
-        }
+    if before < x && x - before == 1 {
+        free(places, mark, x);
+    } else {
+        clearing::clear(places, mark, x);
     }
-    clearing::clear(places, mark, x);
 }
 
 // Frees the first place with that mark and the number x.
 fn free(places: &mut [u64], mark: u64, x: u64)
     ensures { Freed places.old mark x places.new }
 {
-    let mut at: usize = 0;
-    while at < places.len() / WORDS {
-        if places[at * WORDS] == mark {
-            if places[at * WORDS + 1] == x {
-                places[at * WORDS] = 0;
-                return;
-            }
+    for at in 0..places.len() / WORDS {
+        if places[at * WORDS] == mark && places[at * WORDS + 1] == x {
+            places[at * WORDS] = 0;
+            return;
         }
-        at += 1;
     }
 }

@@ -6,7 +6,6 @@ ghost use Rattle.counts.specs.Answers.{Counted, Left};
 ghost use Rattle.counts.specs.Inner.{IsNew};
 
 use keys::Bound;
-use searches::Spot;
 
 // How many entries the range has.
 pub fn count(keys: &[u64], n: usize, lo: Bound, hi: Bound) -> usize
@@ -17,29 +16,21 @@ pub fn count(keys: &[u64], n: usize, lo: Bound, hi: Bound) -> usize
     }
     let i = searches::before(keys, n, lo);
     let j = searches::before(keys, n, hi);
-    if j <= i {
-        return 0;
-    }
-    j - i
+    j.saturating_sub(i)
 }
 
 // How many entries replacing the range by entries with these keys would leave.
 pub fn left(keys: &[u64], n: usize, lo: Bound, hi: Bound, ks: &[u64], m: usize) -> usize
     ensures { Left keys.now n lo hi ks.now m result }
 {
-    if keys.len() < n {
-        return 0;
-    }
-    if ks.len() < m {
+    if keys.len() < n || ks.len() < m {
         return 0;
     }
     let mut left = n - count(keys, n, lo, hi);
-    let mut t: usize = 0;
-    while t < m {
-        if is_new(keys, n, lo, hi, ks[t]) {
+    for k in &ks[..m] {
+        if is_new(keys, n, lo, hi, *k) {
             left += 1;
         }
-        t += 1;
     }
     left
 }
@@ -48,12 +39,5 @@ pub fn left(keys: &[u64], n: usize, lo: Bound, hi: Bound, ks: &[u64], m: usize) 
 fn is_new(keys: &[u64], n: usize, lo: Bound, hi: Bound, key: u64) -> bool
     ensures { IsNew keys.now n lo hi key result }
 {
-    if keys::contains(lo, hi, key) {
-        return true;
-    }
-    let spot = searches::seek(keys, n, key);
-    match spot {
-        Spot::Old(_) => false,
-        Spot::New(_) => true,
-    }
+    keys::contains(lo, hi, key) || searches::seek(keys, n, key).is_err()
 }

@@ -3,7 +3,8 @@
 use mathlib.Core.Path.{◌≡◌, refl, sym, ap, ◌∙◌, subst}
 use mathlib.Core.Bool.{Bool, true, false, cond, ◌&&◌, and-eq-true_iff}
 use mathlib.Core.List.{List, [], ◌∷◌, ◌++◌, append_assoc, append-nil}
-use mathlib.Core.Option.{Option, none, some, some-injective, none-ne-some}
+use Rattle.std.specs.Prelude.{Option, Some, None}
+use mathlib.Core.Option.{Option as Maybe, none, some, some-injective, none-ne-some}
 use Prim.Native.Nat.{ℕ, ◌+◌, ◌<◌}
 use native.Mathlib.Omega.{arith}
 use lib.ListN.{length, take, drop, length-append}
@@ -17,7 +18,7 @@ use Rattle.message.specs.Message.{Datagram, message, ack}
 use Rattle.message.specs.View.{bytes_of, body_of}
 use Rattle.message.specs.Answers.{AfterParse}
 use Rattle.message.specs.declared.Parsed.{Parsed}
-use Rattle.message.specs.declared.Parsed.TheVariants.{Message, Ack, Invalid}
+use Rattle.message.specs.declared.Parsed.TheVariants.{Message, Ack}
 use Rattle.message.specs.Table.{datagram, datagram_value, datagram_is, written, Valid}
 use Rattle.message.proofs.Laws.{same_datagram}
 use Rattle.decoding.specs.Decode.{same, good, list_of, value_of, checked, read}
@@ -123,7 +124,7 @@ read_some s m e = go (value_of datagram s) e
         subst (λ (y : Datagram). Valid y × (written y ≡ s)) k (good_true datagram (datagram_value x) u.0, same_true (written x) s u.1)
     chosen false x q h = absurd (none-ne-some m h)
 
-    go : (o : Option (Of datagram × List ℕ)) → checked s o ≡ some m → Valid m × (written m ≡ s)
+    go : (o : Maybe (Of datagram × List ℕ)) → checked s o ≡ some m → Valid m × (written m ≡ s)
     go none h = absurd (none-ne-some m h)
     go (some p) h = chosen _ (datagram_is p.0.0 p.0.1) refl h
 
@@ -134,17 +135,17 @@ read_none s e m h w = none-ne-some m (sym e ∙ ap read (sym w) ∙ read_written
 -- ---- `parsing::parse` agrees
 
 -- the message that an answer describes
-abbrev pub answered : List ℕ → Parsed → Option Datagram
-answered s (Message n a b) = some (message n (bytes_of s a) (body_of s b))
-answered s (Ack n) = some (ack n)
-answered s Invalid = none
+abbrev pub answered : List ℕ → Option Parsed → Maybe Datagram
+answered s (Some (Message n a b)) = some (message n (bytes_of s a) (body_of s b))
+answered s (Some (Ack n)) = some (ack n)
+answered s None = none
 
-pub parse_reads : (s : List ℕ) (r : Parsed) → AfterParse s r → read s ≡ answered s r
-parse_reads s (Message n a b) A =
+pub parse_reads : (s : List ℕ) (r : Option Parsed) → AfterParse s r → read s ≡ answered s r
+parse_reads s (Some (Message n a b)) A =
     ap read (sym A.is.1) ∙ read_written (message n (bytes_of s a) (body_of s b)) A.is.0
-parse_reads s (Ack n) A = ap read (sym A.is.1) ∙ read_written (ack n) A.is.0
-parse_reads s Invalid A = go (read s) refl
+parse_reads s (Some (Ack n)) A = ap read (sym A.is.1) ∙ read_written (ack n) A.is.0
+parse_reads s None A = go (read s) refl
   where
-    go : (o : Option Datagram) → read s ≡ o → o ≡ none
+    go : (o : Maybe Datagram) → read s ≡ o → o ≡ none
     go none e = refl
     go (some m) e = let u = read_some s m e in absurd (A.is m u.0 u.1)

@@ -2,13 +2,12 @@
 -- Assumes nothing.
 use mathlib.Core.Path.{◌≡◌, refl, sym, ap, ◌∙◌, subst}
 use mathlib.Core.Logic.{⊎_elim}
-use mathlib.Core.Bool.{Bool, true, false, ◌||◌, false≢true}
+use mathlib.Core.Bool.{true, false}
 use mathlib.Core.List.{List, [], ◌∷◌}
 use Prim.Native.Nat.{ℕ, suc, ◌+◌, ◌-◌, ◌≤◌, ◌<◌}
 use native.Mathlib.Omega.{arith}
 use lib.ListN.{length, get_or, set, drop}
 use lib.Seq.{get_or-set_same, get_or-set_other, get_or-drop, drop-drop}
-use lib.Dec.{ltb}
 use borrow.Author.Tests.{lt-ltb, le-ltb}
 use Rattle.limits.specs.Limits.{value_max}
 use Rattle.columns.proofs.Cases.{eq_or_ne}
@@ -17,8 +16,7 @@ use Rattle.memory.proofs.Parts.{length_part}
 use Rattle.format.specs.Format.{Entry}
 use Rattle.format.specs.Place.{listed, Rest}
 use Rattle.format.specs.declared.Part.{Part}
-use Rattle.lists.specs.declared.RowRead.{RowRead}
-use Rattle.lists.specs.declared.RowRead.TheVariants.{Is, Missing}
+use Rattle.std.specs.Prelude.{Some, None}
 use Rattle.lists.specs.Answers.{ReadRow}
 use Rattle.lists.proofs.Laws.{goes_on}
 use Rattle.protocol.specs.Process.{any_long}
@@ -26,29 +24,19 @@ use Rattle.delegates.specs.Answers.{entry_at, Row, Filled}
 
 -- ---- the next entry of a list
 
-abbrev told : RowRead → ℕ × Part
-told (Is k p) = (k, p)
-told Missing = (0, record { at = 0; len = 0 })
-
-abbrev is_there : RowRead → Bool
-is_there (Is k p) = true
-is_there Missing = false
-
 module _ {s : List ℕ} {at n low next : ℕ} (l : List Entry) (R : Rest s at n low l next) (some : 0 < n) where
-  next_row : (k : ℕ) (p : Part) → ReadRow s at (Is k p)
+  next_row : (k : ℕ) (p : Part) → ReadRow s at (Some (k, p))
       → (l' : List Entry) × (l ≡ record { key = k; value = part s p.at p.len } ∷ l') × Rest s (p.at + p.len) (n - 1) (suc k) l' next
   next_row k p A =
-      let u = goes_on l R some (Is k p) A in
-      let e : ◌≡◌ {A = ℕ × Part} (u.0, u.1) (k, p) = ap told (sym u.2) in
-      let v =
+      let u = goes_on l R some (Some (k, p)) A in
+      let e : ◌≡◌ {A = ℕ × Part} (u.0, u.1) (k, p) = cc in
       subst
-      (λ (q : ℕ × Part). (l ≡ record { key = q.0; value = part s q.1.at q.1.len } ∷ u.3) × Rest s (q.1.at + q.1.len) (n - 1) (suc q.0) u.3 next)
+      (λ (q : ℕ × Part). (l' : List Entry) × (l ≡ record { key = q.0; value = part s q.1.at q.1.len } ∷ l') × Rest s (q.1.at + q.1.len) (n - 1) (suc q.0) l' next)
       e
-      (u.4, u.5) in
-      (u.3, v.0, v.1)
+      (u.3, u.4, u.5)
 
-  next_there : ReadRow s at Missing → ⊥
-  next_there A = false≢true (ap is_there (goes_on l R some Missing A).2)
+  next_there : ReadRow s at None → ⊥
+  next_there A = let u = goes_on l R some None A in cc
 
 -- ---- the first i entries of the list from place `from` on are written down, and the others stand from place `at` on
 
@@ -66,25 +54,22 @@ going_start s from m ks ats ls = record {
 
 module _ {s : List ℕ} {from m at i : ℕ} {ks ats ls : List ℕ} (G : Going s from m at i ks ats ls) (q : i < m) where
   -- a list that was read has its next entry
-  pub going_there : (next : ℕ) → Rest s from m 0 (listed s from m) next → ReadRow s at Missing → ⊥
+  pub going_there : (next : ℕ) → Rest s from m 0 (listed s from m) next → ReadRow s at None → ⊥
   going_there next R A = let g = G.is next R in next_there (drop i (listed s from m)) g.1 (omega arith) A
 
-  module _ {k : ℕ} {p : Part} (A : ReadRow s at (Is k p)) where
-    within : p.at + p.len ≤ length s
-    within = A.is.1.within
-
+  module _ {k : ℕ} {p : Part} (A : ReadRow s at (Some (k, p))) where
     abbrev entry : Entry
     entry = record { key = k; value = part s p.at p.len }
 
-    long_is : (t : Bool) → ltb value_max p.len ≡ t → ltb value_max (length entry.value) ≡ t
-    long_is t e = ap (ltb value_max) (length_part s p.at p.len within) ∙ e
+    length_is : length entry.value ≡ p.len
+    length_is = length_part s p.at p.len A.is.1.within
 
     -- its value may be too long
     pub going_long : value_max < p.len → (next : ℕ) → Rest s from m 0 (listed s from m) next → any_long (listed s from m) ≡ true
     going_long h next R =
         let g = G.is next R in
         let u = next_row (drop i (listed s from m)) g.1 (omega arith) k p A in
-        g.2 ∙ ap any_long u.1 ∙ ap (λ (t : Bool). t || any_long u.0) (long_is true (lt-ltb value_max p.len h))
+        rw (g.2, u.1, length_is, lt-ltb value_max p.len h) refl
 
     -- else it is written down
     module _ (short : p.len ≤ value_max) (fk : i < length ks) (fa : i < length ats) (fl : i < length ls) where
@@ -95,7 +80,7 @@ module _ {s : List ℕ} {from m at i : ℕ} {ks ats ls : List ℕ} (G : Going s 
           record {
             key = get_or-set_same ks i k 0 fk ∙ ap (λ (x : Entry). x.key) (sym e);
             value = rw (ea, el) (ap (λ (x : Entry). x.value) (sym e));
-            inside = omega (arith, ea, el, within);
+            inside = omega (arith, ea, el, A.is.1.within);
             short = omega (arith, el, short);
           }
 
@@ -120,17 +105,12 @@ module _ {s : List ℕ} {from m at i : ℕ} {ks ats ls : List ℕ} (G : Going s 
             let rest : drop (i + 1) es ≡ u.0 = sym (drop-drop 1 i es) ∙ ap (drop 1) u.1 in
             let less : m - i - 1 ≡ m - (i + 1) = omega arith in
             let z : i + 0 ≡ i = omega arith in
-            let here : entry_at es i ≡ entry =
-            ap (entry_at es) (sym z) ∙ sym (get_or-drop i es 0 _) ∙ ap (λ (l : List Entry). entry_at l 0) u.1 in (
+            let here : entry_at es i ≡ entry = ap (entry_at es) (sym z) ∙ sym (get_or-drop i es 0 _) ∙ rw u.1 refl in (
               suc k,
-              subst (λ (n : ℕ). Rest s (p.at + p.len) n (suc k) (drop (i + 1) es) next) less
-                  (subst (λ (l : List Entry). Rest s (p.at + p.len) (m - i - 1) (suc k) l next) (sym rest) u.2),
-              g.2 ∙ ap any_long u.1 ∙ ap (λ (t : Bool). t || any_long u.0) (long_is false (le-ltb value_max p.len short)) ∙ ap any_long (sym rest),
+              rw (rest, ← less) u.2,
+              g.2 ∙ rw (u.1, length_is, le-ltb value_max p.len short, rest) refl,
               λ x r.
-                  ⊎_elim
-                  (λ (e : x ≡ i). subst (λ (y : ℕ). Row s es (set ks i k) (set ats i p.at) (set ls i p.len) y) (sym e) (row_here here))
-                  (λ d. row_before x d (g.3 x (omega (arith, d))))
-                  (eq_or_ne x i),
+                  ⊎_elim (λ (e : x ≡ i). rw e (row_here here)) (λ d. row_before x d (g.3 x (omega (arith, d)))) (eq_or_ne x i),
             );
       }
 

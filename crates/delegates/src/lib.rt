@@ -7,19 +7,12 @@ ghost use Rattle.delegates.specs.Answers.{Fine, AfterColumns};
 use hosts::State;
 use keys::Bound;
 use limits::{ENTRIES_LIMIT, VALUE_MAX};
-use lists::RowRead;
 
 // Has the range a key, are there few enough entries, and is the sender a host?
 pub fn fine(k: State, lo: Bound, hi: Bound, count: usize) -> bool
     ensures { Fine k lo hi count result }
 {
-    if keys::is_empty(lo, hi) {
-        return false;
-    }
-    if ENTRIES_LIMIT <= count {
-        return false;
-    }
-    k.from < k.hosts
+    !keys::is_empty(lo, hi) && count < ENTRIES_LIMIT && k.from < k.hosts
 }
 
 // Writes down the list's m entries as columns, unless a value is too long or a column too short.
@@ -33,19 +26,12 @@ pub fn columns(
 ) -> bool
     ensures { AfterColumns s.now from m result ks.new ats.new ls.new }
 {
-    if ks.len() < m {
-        return false;
-    }
-    if ats.len() < m {
-        return false;
-    }
-    if ls.len() < m {
+    if ks.len() < m || ats.len() < m || ls.len() < m {
         return false;
     }
     let mut at = from;
-    let mut i: usize = 0;
-    while i < m {
-        let RowRead::Is(key, part) = lists::row(s, at) else {
+    for i in 0..m {
+        let Some((key, part)) = lists::row(s, at) else {
             return false;
         };
         if VALUE_MAX < part.len {
@@ -55,7 +41,6 @@ pub fn columns(
         ats[i] = part.at as u64;
         ls[i] = part.len as u64;
         at = part.at + part.len;
-        i += 1;
     }
     true
 }

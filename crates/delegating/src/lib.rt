@@ -12,10 +12,8 @@ ghost use Rattle.sizes.specs.Sizes.{sizes};
 ghost use Rattle.delegating.specs.Columns.{Columns, entered, AfterDelegate};
 
 use format::WIDTH;
-use fronts::Start;
 use keys::Bound;
-use message::Written;
-use sizes::Size;
+use message::Refused;
 
 pub fn delegate(
     n: u64,
@@ -28,32 +26,26 @@ pub fn delegate(
     m: usize,
     bytes: &[u8],
     d: &mut [u8],
-) -> Written
+) -> Result<usize, Refused>
     ensures { AfterDelegate keys.now ats.now lens.now bytes.now m (message n to.now (delegate lo hi (entered keys.now ats.now lens.now bytes.now 0 m))) d.old result d.new }
 {
     if !columns::rises(keys, m) {
-        return Written::Invalid;
+        return Err(Refused::Invalid);
     }
     if !strings::inside(ats, lens, m, bytes.len()) {
-        return Written::Invalid;
+        return Err(Refused::Invalid);
     }
-    let Size::Is(total) = sizes::size_of(lens, m) else {
-        return Written::Invalid;
+    let Some(total) = sizes::size_of(lens, m) else {
+        return Err(Refused::Invalid);
     };
     let low = lengths::bound_length(lo);
     let both = low + lengths::bound_length(hi);
     let more = both + total;
-    let begun = fronts::begin(n, to, 5, more, d);
-    match begun {
-        Start::At(at) => {
-            options::bound(lo, d, at);
-            options::bound(hi, d, at + low);
-            list(keys, ats, lens, m, bytes, d, at + both);
-            Written::Bytes(at + more)
-        }
-        Start::NoRoom => Written::NoRoom,
-        Start::Invalid => Written::Invalid,
-    }
+    let at = fronts::begin(n, to, 5, more, d)?;
+    options::bound(lo, d, at);
+    options::bound(hi, d, at + low);
+    list(keys, ats, lens, m, bytes, d, at + both);
+    Ok(at + more)
 }
 
 // The list: how many entries there are, then each.
@@ -78,14 +70,12 @@ fn entries(
     ensures { d.new ≡ placed d.old from (rows (entered keys.now ats.now lens.now bytes.now 0 m)) }
 {
     let mut at = from;
-    let mut i: usize = 0;
-    while i < m {
+    for i in 0..m {
         let begin = ats[i] as usize;
         let len = lens[i] as usize;
         let end = begin + len;
         entry(keys[i], &bytes[begin..end], d, at);
         at += WIDTH + WIDTH + len;
-        i += 1;
     }
 }
 

@@ -12,7 +12,8 @@ use Rattle.keys.specs.declared.Bound.{Bound}
 use Rattle.keys.specs.Bound.{below, holds}
 use Rattle.keys.proofs.Laws.{holds_empty}
 use Rattle.columns.proofs.Cases.{lt_or_ge}
-use Rattle.delegation.specs.declared.Changed.TheVariants.{Bounds, NoRoom}
+use Rattle.std.specs.Prelude.{Ok, Err}
+use Rattle.limits.specs.declared.NoRoom.{NoRoom}
 use Rattle.delegation.specs.Map.{Keeps, Takes, updated, room, AfterSet, Left}
 
 -- ---- the map after a change
@@ -122,10 +123,10 @@ keeps_room k = omega (arith, k.fits_lows, k.fits_owners)
 
 -- a change leaves as many bounds as was said before it
 pub set_bounds : {lows owners lows' owners' : List ℕ} {n m m' v : ℕ} {lo hi : Bound} {f : ℕ → ℕ} → Keeps lows owners n f → Left lows owners n lo hi v m
-    → AfterSet lows owners n lo hi v (Bounds m') lows' owners' → m' ≡ m
+    → AfterSet lows owners n lo hi v (Ok m') lows' owners' → m' ≡ m
 set_bounds {f = f} k l s = takes_unique (keeps_takes (s.is f k)) (l.is f k)
 
 -- and if there is room for that many it is not refused
-pub set_fits : {lows owners lows' owners' : List ℕ} {n m v : ℕ} {lo hi : Bound} {f : ℕ → ℕ} → Keeps lows owners n f → Left lows owners n lo hi v m → m ≤ room lows owners
-    → AfterSet lows owners n lo hi v NoRoom lows' owners' → ⊥
+pub set_fits : {lows owners lows' owners' : List ℕ} {n m v : ℕ} {lo hi : Bound} {f : ℕ → ℕ} {e : NoRoom} → Keeps lows owners n f → Left lows owners n lo hi v m → m ≤ room lows owners
+    → AfterSet lows owners n lo hi v (Err e) lows' owners' → ⊥
 set_fits {f = f} k l h s = let t = s.is.2 f k in omega (arith, takes_unique (l.is f k) t.1, t.2)

@@ -1,3 +1,2 @@
--- `Laws` has what callers may cite of the map. `Search`, what a search answers in a map that is kept, is for this crate's proofs alone.
+-- `Laws` has what callers may cite of the map.
 pub mod Laws
-mod Search

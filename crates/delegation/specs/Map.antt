@@ -1,13 +1,12 @@
 -- The map from key to owner, and what the functions over it answer (document 01, section 2). The map means a function: every key has one
 -- owner, a small number.
 -- Assumes nothing.
-use Rattle.std.specs.Prelude.{◌≡◌, Bool, true, false, cond, List, ℕ, suc, min, ◌≤◌, ◌<◌, length, get_or}
+use Rattle.std.specs.Prelude.{◌≡◌, Bool, true, false, cond, List, Result, Ok, Err, ℕ, suc, min, ◌≤◌, ◌<◌, length, get_or}
 use Rattle.limits.specs.Limits.{numbers}
 use Rattle.keys.specs.declared.Bound.{Bound}
 use Rattle.keys.specs.Bound.{holds}
 use Rattle.columns.specs.Column.{Rising}
-use Rattle.delegation.specs.declared.Changed.{Changed}
-use Rattle.delegation.specs.declared.Changed.TheVariants.{Bounds, NoRoom}
+use Rattle.limits.specs.declared.NoRoom.{NoRoom}
 
 -- the map after the range [lo, hi) was given to v: exactly the keys in the range change
 abbrev pub updated : Bound → Bound → ℕ → (ℕ → ℕ) → ℕ → ℕ
@@ -34,12 +33,12 @@ room lows owners = min (length lows) (length owners)
 
 -- ---- what the functions answer
 
-abbrev pub StartCases : Changed → (lows owners : List ℕ) → ℕ → (lows' owners' : List ℕ) → Type 0
-StartCases (Bounds m) lows owners v lows' owners' = Keeps lows' owners' m (λ k. v)
-StartCases NoRoom lows owners v lows' owners' = (lows' ≡ lows) × (owners' ≡ owners) × (room lows owners < 1)
+abbrev pub StartCases : Result ℕ NoRoom → (lows owners : List ℕ) → ℕ → (lows' owners' : List ℕ) → Type 0
+StartCases (Ok m) lows owners v lows' owners' = Keeps lows' owners' m (λ k. v)
+StartCases (Err e) lows owners v lows' owners' = (lows' ≡ lows) × (owners' ≡ owners) × (room lows owners < 1)
 
 -- all keys are v's, or there is no room for one bound and nothing has changed
-pub record AfterStart (lows owners : List ℕ) (v : ℕ) (r : Changed) (lows' owners' : List ℕ) : Type 0 where
+pub record AfterStart (lows owners : List ℕ) (v : ℕ) (r : Result ℕ NoRoom) (lows' owners' : List ℕ) : Type 0 where
   pub is : StartCases r lows owners v lows' owners'
 
 -- r is the key's owner
@@ -51,15 +50,15 @@ pub record Enough (lows owners : List ℕ) (n : ℕ) (r : Bool) : Type 0 where
   pub yes : r ≡ true → (0 < n) × (n ≤ length lows) × (n ≤ length owners)
   pub no : r ≡ false → 0 < n → n ≤ length lows → n ≤ length owners → ⊥
 
-abbrev pub SetCases : Changed → (lows owners : List ℕ) → ℕ → Bound → Bound → ℕ → (lows' owners' : List ℕ) → Type 0
-SetCases (Bounds m) lows owners n lo hi v lows' owners' =
+abbrev pub SetCases : Result ℕ NoRoom → (lows owners : List ℕ) → ℕ → Bound → Bound → ℕ → (lows' owners' : List ℕ) → Type 0
+SetCases (Ok m) lows owners n lo hi v lows' owners' =
     (f : ℕ → ℕ) → Keeps lows owners n f → Keeps lows' owners' m (updated lo hi v f)
-SetCases NoRoom lows owners n lo hi v lows' owners' =
+SetCases (Err e) lows owners n lo hi v lows' owners' =
     (lows' ≡ lows) × (owners' ≡ owners)
     × ((f : ℕ → ℕ) → Keeps lows owners n f → (m : ℕ) × Takes (updated lo hi v f) m × (room lows owners < m))
 
 -- the range is v's and every other key is whose it was, or that takes more bounds than there is room for and nothing has changed
-pub record AfterSet (lows owners : List ℕ) (n : ℕ) (lo hi : Bound) (v : ℕ) (r : Changed) (lows' owners' : List ℕ) : Type 0 where
+pub record AfterSet (lows owners : List ℕ) (n : ℕ) (lo hi : Bound) (v : ℕ) (r : Result ℕ NoRoom) (lows' owners' : List ℕ) : Type 0 where
   pub is : SetCases r lows owners n lo hi v lows' owners'
 
 -- r is how many bounds giving the range to v would leave

@@ -13,26 +13,18 @@
 ghost use Rattle.columns.specs.Column.{Upto};
 ghost use Rattle.delegation.specs.Map.{AfterStart, Enough, Owner};
 
-// What a change answers: how many bounds there are now, or that they do not fit what is lent.
-#[derive(Clone, Copy)]
-pub enum Changed {
-    Bounds(usize),
-    NoRoom,
-}
+use limits::NoRoom;
 
-// All keys to one owner.
-pub fn start(lows: &mut [u64], owners: &mut [u64], owner: u64) -> Changed
+// All keys to one owner. Answers how many bounds there are then.
+pub fn start(lows: &mut [u64], owners: &mut [u64], owner: u64) -> Result<usize, NoRoom>
     ensures { AfterStart lows.old owners.old owner result lows.new owners.new }
 {
-    if lows.len() == 0 {
-        return Changed::NoRoom;
-    }
-    if owners.len() == 0 {
-        return Changed::NoRoom;
+    if lows.is_empty() || owners.is_empty() {
+        return Err(NoRoom);
     }
     lows[0] = 0;
     owners[0] = owner;
-    Changed::Bounds(1)
+    Ok(1)
 }
 
 // Whose is the key?
@@ -40,10 +32,7 @@ pub fn owner(lows: &[u64], owners: &[u64], n: usize, key: u64) -> u64
     ensures { Owner lows.now owners.now n key result }
 {
     let at = upto(lows, n, key);
-    if at == 0 {
-        return 0;
-    }
-    if owners.len() < at {
+    if at == 0 || owners.len() < at {
         return 0;
     }
     owners[at - 1]
@@ -53,33 +42,12 @@ pub fn owner(lows: &[u64], owners: &[u64], n: usize, key: u64) -> u64
 pub fn enough(lows: &[u64], owners: &[u64], n: usize) -> bool
     ensures { Enough lows.now owners.now n result }
 {
-    if n == 0 {
-        return false;
-    }
-    if lows.len() < n {
-        return false;
-    }
-    if owners.len() < n {
-        return false;
-    }
-    true
+    0 < n && n <= lows.len() && n <= owners.len()
 }
 
-// How many of the n bounds lie at or below the key. They are looked through from the front; a search
-// by halving meets the same contract.
+// How many of the n bounds lie at or below the key.
 pub fn upto(lows: &[u64], n: usize, key: u64) -> usize
     ensures { Upto lows.now n key result }
 {
-    let mut end = n;
-    if lows.len() < n {
-        end = lows.len();
-    }
-    let mut i: usize = 0;
-    while i < end {
-        if key < lows[i] {
-            return i;
-        }
-        i += 1;
-    }
-    i
+    searches::upto(lows, n, key)
 }

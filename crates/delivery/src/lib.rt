@@ -16,7 +16,7 @@ pub const WORDS: usize = 3;
 
 // The number of the last message that was taken from a peer, how many it has acknowledged, and the number
 // of the last message that was sent to it.
-#[derive(Clone, Copy)]
+#[derive(Clone, Copy, Debug, Default, PartialEq, Eq)]
 pub struct Counts {
     pub received: u64,
     pub acknowledged: u64,
@@ -28,11 +28,7 @@ pub fn counts_of(counts: &[u64], peer: usize) -> Counts
     ensures { Counted counts.now peer result }
 {
     if counts.len() / WORDS <= peer {
-        return Counts {
-            received: 0,
-            acknowledged: 0,
-            last: 0,
-        };
+        return Counts::default();
     }
     Counts {
         received: counts[peer * WORDS],

@@ -12,15 +12,12 @@ pub fn among(ats: &[u64], lens: &[u64], m: usize, bytes: &[u8], name: &[u8]) -> 
     if !strings::inside(ats, lens, m, bytes.len()) {
         return false;
     }
-    let mut i: usize = 0;
-    while i < m {
+    for i in 0..m {
         let at = ats[i] as usize;
-        let len = lens[i] as usize;
-        let end = at + len;
+        let end = at + lens[i] as usize;
         if memory::same(&bytes[at..end], name) {
             return true;
         }
-        i += 1;
     }
     false
 }
@@ -32,15 +29,12 @@ pub fn distinct(ats: &[u64], lens: &[u64], m: usize, bytes: &[u8]) -> bool
     if !strings::inside(ats, lens, m, bytes.len()) {
         return false;
     }
-    let mut i: usize = 0;
-    while i < m {
+    for i in 0..m {
         let at = ats[i] as usize;
-        let len = lens[i] as usize;
-        let end = at + len;
+        let end = at + lens[i] as usize;
         if among(ats, lens, i, bytes, &bytes[at..end]) {
             return false;
         }
-        i += 1;
     }
     true
 }

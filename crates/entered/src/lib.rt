@@ -6,26 +6,22 @@ ghost use Rattle.entered.specs.Entered.{Checked};
 
 use limits::VALUE_MAX;
 
-// What a look at the list finds.
-#[derive(Clone, Copy)]
-pub enum Look {
-    Fine,
-    Long,
-    Bad,
+// What is wrong with a list: some value is too long, or it is not well formed.
+#[derive(Clone, Copy, Debug, PartialEq, Eq)]
+pub enum Refused {
+    TooLong,
+    Malformed,
 }
 
 // Is the list well formed, and no value too long?
-pub fn check(ks: &[u64], ats: &[u64], ls: &[u64], m: usize, bytes: &[u8]) -> Look
+pub fn check(ks: &[u64], ats: &[u64], ls: &[u64], m: usize, bytes: &[u8]) -> Result<(), Refused>
     ensures { Checked ks.now ats.now ls.now bytes.now m result }
 {
-    if !columns::rises(ks, m) {
-        return Look::Bad;
-    }
-    if !strings::inside(ats, ls, m, bytes.len()) {
-        return Look::Bad;
+    if !columns::rises(ks, m) || !strings::inside(ats, ls, m, bytes.len()) {
+        return Err(Refused::Malformed);
     }
     if !strings::none_longer(ls, m, VALUE_MAX) {
-        return Look::Long;
+        return Err(Refused::TooLong);
     }
-    Look::Fine
+    Ok(())
 }

@@ -5,6 +5,7 @@ ghost use Rattle.hosts.specs.Memory.{memory};
 ghost use Rattle.exporting_process.specs.Answers.{Processing, KeptStep};
 
 use hosts::Done;
+use lent::{Index, Map, Post, Strings};
 use numbers::{PLACE, WORDS};
 
 // Answers a number from 20 to 27, or 2. Word 11 is a hint before, a place that may be free, and may be any number;
@@ -32,8 +33,22 @@ pub fn process(
     }
     let k = numbers::load(numbers);
     let hint = numbers[PLACE] as usize;
+    let addresses = Strings {
+        lens: name_lens,
+        bytes: names,
+    };
     let done = processing::process(
-        lows, owners, keys, slots, lens, values, name_lens, names, counts, places, mail, room, k,
+        &mut Map { lows, owners },
+        &mut Index { keys, slots },
+        &mut Strings {
+            lens,
+            bytes: values,
+        },
+        addresses,
+        &mut Post { counts, places },
+        mail,
+        room,
+        k,
         hint,
     );
     kept(numbers, done)
@@ -43,8 +58,6 @@ pub fn process(
 fn kept(numbers: &mut [u64], done: Done) -> u64
     ensures { KeptStep done numbers.old numbers.new result }
 {
-    let state = done.state;
-    let outcome = done.outcome;
-    numbers::store(numbers, state, codes::processed_place(outcome));
-    codes::processed(outcome)
+    numbers::store(numbers, done.state, codes::processed_place(done.outcome));
+    codes::processed(done.outcome)
 }

@@ -30,10 +30,7 @@ pub fn receive(
         room.old numbers.old from.now datagram.now ack.old result
         (memory lows.now owners.now keys.now slots.now lens values name_lens.new names.new counts.new places.new mail) room.new numbers.new ack.new }
 {
-    if numbers.len() < WORDS {
-        return codes::UNFIT;
-    }
-    if ack.len() < 1 + WIDTH {
+    if numbers.len() < WORDS || ack.len() < 1 + WIDTH {
         return codes::UNFIT;
     }
     let k = numbers::load(numbers);
@@ -47,8 +44,6 @@ pub fn receive(
 fn kept(numbers: &mut [u64], arrival: Arrival) -> u64
     ensures { KeptArrival arrival numbers.old numbers.new result }
 {
-    let state = arrival.state;
-    let outcome = arrival.outcome;
-    numbers::store(numbers, state, arrival.place as u64);
-    codes::received(outcome)
+    numbers::store(numbers, arrival.state, arrival.place as u64);
+    codes::received(arrival.outcome)
 }

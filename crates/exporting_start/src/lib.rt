@@ -4,8 +4,9 @@
 ghost use Rattle.hosts.specs.Memory.{memory};
 ghost use Rattle.exporting_start.specs.Answers.{Starting, Kept};
 
+use hosts::State;
 use numbers::WORDS;
-use starting::Started;
+use starting::Refused;
 
 // Answers 0, 1 or 2. The numbers are written only where a host starts.
 pub fn start(
@@ -62,15 +63,15 @@ pub fn start(
 }
 
 // Writes down the numbers of a host that was started. Answers what became of starting.
-fn kept(numbers: &mut [u64], started: Started) -> u64
+fn kept(numbers: &mut [u64], started: Result<State, Refused>) -> u64
     ensures { Kept started numbers.old numbers.new result }
 {
     match started {
-        Started::Now(k) => {
+        Ok(k) => {
             numbers::store(numbers, k, 0);
             codes::STARTED
         }
-        Started::NoHost => codes::NO_HOST,
-        Started::Unfit => codes::UNFIT,
+        Err(Refused::NoHost) => codes::NO_HOST,
+        Err(Refused::Unfit) => codes::UNFIT,
     }
 }

@@ -1,27 +1,19 @@
 -- The answer of a turn, from the contracts of what is called.
 -- Assumes nothing.
-use mathlib.Core.Path.{◌≡◌, refl, sym, ap, ◌∙◌, subst}
+use mathlib.Core.Path.{◌≡◌, sym, ap, ◌∙◌, subst}
 use mathlib.Core.Bool.{Bool}
 use mathlib.Core.List.{List}
 use Prim.Native.Nat.{ℕ, ◌≤◌}
-use lib.ListN.{length, get_or}
+use lib.ListN.{length}
 use Rattle.message.specs.Message.{Address}
 use Rattle.hosts.specs.declared.State.{State}
 use Rattle.hosts.specs.Memory.{Memory}
-use Rattle.numbers.specs.Words.{words, place_word, state_of}
+use Rattle.numbers.specs.Words.{words, state_of}
 use Rattle.rounds.specs.declared.Ended.{Ended}
 use Rattle.turning.specs.Answers.{Lent, AfterTurn}
-use Rattle.codes.specs.Codes.{unfit, turned_code, turned_place_of}
+use Rattle.codes.specs.Codes.{unfit, turned_code}
 use Rattle.codes.proofs.Laws.{turned_refused}
 use Rattle.exporting_turn.specs.Answers.{Turning, KeptTurn}
-
--- a turn was refused, so nothing is written down
-pub turn_left : {d : Ended} {numbers : List ℕ} {r : ℕ} → r ≡ turned_code d.outcome → r ≡ unfit → KeptTurn d numbers numbers r
-turn_left told e = record { told = told; stored = λ w n. absurd (n e); left = λ q. refl }
-
-pub turn_kept : {d : Ended} {numbers numbers' : List ℕ} {r place : ℕ} → r ≡ turned_code d.outcome → (r ≡ unfit → ⊥) → place ≡ turned_place_of d.outcome d.place
-    → (words ≤ length numbers → (state_of numbers' ≡ d.state) × (get_or numbers' place_word 0 ≡ place)) → KeptTurn d numbers numbers' r
-turn_kept told n at stored = record { told = told; stored = λ w q. ((stored w).0, (stored w).1 ∙ at); left = λ e. absurd (n e) }
 
 pub turned : {m m' : Memory} {room room' numbers numbers' : List ℕ} {arrived : Bool} {a : Address} {s ack ack' out out' : List ℕ} {r : ℕ} {k : State}
     {d : Ended} → words ≤ length numbers → (words ≤ length numbers → k ≡ state_of numbers)

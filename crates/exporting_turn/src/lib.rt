@@ -49,12 +49,11 @@ pub fn turn(
 fn kept(numbers: &mut [u64], ended: Ended) -> u64
     ensures { KeptTurn ended numbers.old numbers.new result }
 {
-    let state = ended.state;
-    let outcome = ended.outcome;
-    let told = codes::turned(outcome);
+    let told = codes::turned(ended.outcome);
     if told == codes::UNFIT {
         return told;
     }
-    numbers::store(numbers, state, codes::turned_place(outcome, ended.place));
+    let place = codes::turned_place(ended.outcome, ended.place);
+    numbers::store(numbers, ended.state, place);
     told
 }

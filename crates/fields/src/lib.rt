@@ -4,50 +4,28 @@
 
 ghost use Rattle.fields.specs.Answers.{ReadBound, ReadRange};
 
-use format::{NumberRead, WIDTH};
+use format::WIDTH;
 use keys::Bound;
 
-#[derive(Clone, Copy)]
-pub enum BoundRead {
-    Is(Bound, usize),
-    Missing,
-}
-
-#[derive(Clone, Copy)]
-pub enum RangeRead {
-    Is(Bound, Bound, usize),
-    Missing,
-}
-
-// A bound: a key, or none for end.
-pub fn bound(s: &[u8], at: usize) -> BoundRead
+// A bound: a key, or none for end. And the place behind it.
+pub fn bound(s: &[u8], at: usize) -> Option<(Bound, usize)>
     ensures { ReadBound s.now at result }
 {
-    if s.len() <= at {
-        return BoundRead::Missing;
+    match *s.get(at)? {
+        0 => Some((Bound::End, at + 1)),
+        1 => {
+            let k = format::number(s, at + 1)?;
+            Some((Bound::Key(k), at + 1 + WIDTH))
+        }
+        _ => None,
     }
-    let t = s[at];
-    if t == 0 {
-        return BoundRead::Is(Bound::End, at + 1);
-    }
-    if t != 1 {
-        return BoundRead::Missing;
-    }
-    let NumberRead::Is(k) = format::number(s, at + 1) else {
-        return BoundRead::Missing;
-    };
-    BoundRead::Is(Bound::Key(k), at + 1 + WIDTH)
 }
 
-// The bounds lo and hi.
-pub fn range(s: &[u8], at: usize) -> RangeRead
+// The bounds lo and hi, and the place behind them.
+pub fn range(s: &[u8], at: usize) -> Option<(Bound, Bound, usize)>
     ensures { ReadRange s.now at result }
 {
-    let BoundRead::Is(lo, mid) = bound(s, at) else {
-        return RangeRead::Missing;
-    };
-    let BoundRead::Is(hi, next) = bound(s, mid) else {
-        return RangeRead::Missing;
-    };
-    RangeRead::Is(lo, hi, next)
+    let (lo, mid) = bound(s, at)?;
+    let (hi, next) = bound(s, mid)?;
+    Some((lo, hi, next))
 }

@@ -5,23 +5,20 @@
 ghost use Rattle.std.specs.Prelude.{◌≡◌, true, ◌+◌, ◌*◌, ◌≤◌, length};
 ghost use Rattle.peers.specs.Names.{Standing, AfterFind};
 
-use format::{NumberRead, WIDTH};
-use peers::Peer;
+use format::WIDTH;
 
 // Which peer has that address? The peers are looked through from the front.
-pub fn find(lens: &[u64], names: &[u8], width: usize, n: usize, address: &[u8]) -> Peer
+pub fn find(lens: &[u64], names: &[u8], width: usize, n: usize, address: &[u8]) -> Option<usize>
     ensures { AfterFind lens.now names.now width n address.now result }
 {
     let end = peers::within(n, peers::room(lens.len(), names.len(), width));
-    let mut i: usize = 0;
-    while i < end {
+    for i in 0..end {
         let len = lens[i] as usize;
         if is_at(names, width, i, len, address) {
-            return Peer::Is(i);
+            return Some(i);
         }
-        i += 1;
     }
-    Peer::Unknown
+    None
 }
 
 // Which peer has that address? The place of the hint, which may be any number, is looked at first; where the
@@ -33,7 +30,7 @@ pub fn find_near(
     n: usize,
     address: &[u8],
     hint: usize,
-) -> Peer
+) -> Option<usize>
     ensures { AfterFind lens.now names.now width n address.now result }
 {
     let end = peers::within(n, peers::room(lens.len(), names.len(), width));
@@ -42,7 +39,7 @@ pub fn find_near(
     }
     let long = lens[hint] as usize;
     if is_at(names, width, hint, long, address) {
-        return Peer::Is(hint);
+        return Some(hint);
     }
     find(lens, names, width, n, address)
 }
@@ -68,16 +65,13 @@ fn is_at(names: &[u8], width: usize, i: usize, len: usize, address: &[u8]) -> bo
 fn apart(a: &[u8], b: &[u8]) -> bool
     ensures { result ≡ true → a.now ≡ b.now → ⊥ }
 {
-    if a.len() < WIDTH {
+    if a.len() < WIDTH || b.len() < WIDTH {
         return false;
     }
-    if b.len() < WIDTH {
-        return false;
-    }
-    let NumberRead::Is(x) = format::number(a, a.len() - WIDTH) else {
+    let Some(x) = format::number(a, a.len() - WIDTH) else {
         return false;
     };
-    let NumberRead::Is(y) = format::number(b, b.len() - WIDTH) else {
+    let Some(y) = format::number(b, b.len() - WIDTH) else {
         return false;
     };
     x != y

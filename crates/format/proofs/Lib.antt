@@ -2,4 +2,3 @@ pub mod Numbers
 pub mod Clear
 pub mod Reading
 pub mod Listing
-pub mod Answers

@@ -4,8 +4,7 @@
 // found is written there, and what is missing is written in no way.
 #![tactic(auto)]
 
-ghost use Rattle.std.specs.Prelude.{◌≡◌, ◌+◌, ◌<◌, ◌≤◌, ◌^◌, length};
-ghost use Rattle.format.specs.Number.{worth, width, numbers};
+ghost use Rattle.format.specs.Number.{numbers};
 ghost use Rattle.format.specs.Answers.{ReadNumber, ReadText};
 
 // The bytes of a number.
@@ -18,78 +17,35 @@ pub struct Part {
     pub len: usize,
 }
 
-#[derive(Clone, Copy)]
-pub enum NumberRead {
-    Is(u64),
-    Missing,
-}
-
-#[derive(Clone, Copy)]
-pub enum TextRead {
-    Is(Part),
-    Missing,
-}
-
-// The number at a place. It compiles to one load of eight bytes, for all the arithmetic (looked at with
-// `llvm-objdump -dr` in the static library of `judged_messages`, where it stands in line).
-pub fn number(s: &[u8], at: usize) -> NumberRead
+// The number at a place. It compiles to one load of eight bytes (looked at with `llvm-objdump -dr` in the
+// static library of `judged_messages`, where it stands in line).
+pub fn number(s: &[u8], at: usize) -> Option<u64>
     ensures { ReadNumber s.now at result }
 {
-    if s.len() < at {
-        return NumberRead::Missing;
-    }
-    if s.len() - at < WIDTH {
-        return NumberRead::Missing;
-    }
-    NumberRead::Is(eight(s, at))
+    let bytes = s.get(at..)?.first_chunk::<WIDTH>()?;
+    Some(u64::from_le_bytes(*bytes))
 }
 
 // A byte string of any length.
-pub fn text(s: &[u8], at: usize) -> TextRead
+pub fn text(s: &[u8], at: usize) -> Option<Part>
     ensures { ReadText numbers s.now at result }
 {
-    let NumberRead::Is(n) = number(s, at) else {
-        return TextRead::Missing;
-    };
+    let n = number(s, at)?;
     let from = at + WIDTH;
     let len = n as usize;
     if s.len() - from < len {
-        return TextRead::Missing;
+        return None;
     }
-    TextRead::Is(Part { at: from, len })
+    Some(Part { at: from, len })
 }
 
 // A byte string that is shorter than the limit.
-pub fn short_text(s: &[u8], at: usize, limit: usize) -> TextRead
+pub fn short_text(s: &[u8], at: usize, limit: usize) -> Option<Part>
     ensures { ReadText limit s.now at result }
 {
-    let TextRead::Is(part) = text(s, at) else {
-        return TextRead::Missing;
-    };
+    let part = text(s, at)?;
     if limit <= part.len {
-        return TextRead::Missing;
+        return None;
     }
-    TextRead::Is(part)
-}
-
-// Eight, four and two bytes as numbers, lowest byte first.
-fn eight(s: &[u8], at: usize) -> u64
-    requires { at + 8 ≤ length s.now }
-    ensures { result ≡ worth s.now at 8 }
-{
-    four(s, at) + 4294967296 * four(s, at + 4)
-}
-
-fn four(s: &[u8], at: usize) -> u64
-    requires { at + 4 ≤ length s.now }
-    ensures { (result ≡ worth s.now at 4) × (result < 2 ^ 32) }
-{
-    two(s, at) + 65536 * two(s, at + 2)
-}
-
-fn two(s: &[u8], at: usize) -> u64
-    requires { at + 2 ≤ length s.now }
-    ensures { (result ≡ worth s.now at 2) × (result < 2 ^ 16) }
-{
-    (s[at] as u64) + 256 * (s[at + 1] as u64)
+    Some(part)
 }

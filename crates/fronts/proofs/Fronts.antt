@@ -16,15 +16,10 @@ use Rattle.format.proofs.Clear.{length_counted}
 use Rattle.message.specs.Message.{Body, message}
 use Rattle.message.specs.Table.{bodies, fields, body, body_value, written, Valid}
 use Rattle.message.specs.Answers.{AfterWrite, WriteCases}
-use Rattle.message.specs.declared.Written.{Written}
-use Rattle.message.specs.declared.Written.TheVariants.{Bytes, NoRoom, Invalid}
+use Rattle.message.specs.declared.Refused.{Refused}
+use Rattle.message.specs.declared.Refused.TheVariants.{NoRoom, Invalid}
+use Rattle.std.specs.Prelude.{Result, Ok, Err}
 use Rattle.fronts.specs.Front.{front, AfterStart, FieldsCases, AfterFields}
-use Rattle.fronts.specs.declared.Start.{Start}
-use Rattle.fronts.specs.declared.Start.TheVariants.{At, NoRoom as NoRoomAtAll, Invalid as NoAddress}
-
-pub start_as : {n : ℕ} {to : List ℕ} {t more : ℕ} {d : List ℕ} {r q : Start} {d' : List ℕ} → r ≡ q → AfterStart n to t more d r d'
-    → AfterStart n to t more d q d'
-start_as {n} {to} {t} {more} {d} {r} {q} {d'} e A = subst (λ (x : Start). AfterStart n to t more d x d') e A
 
 pub length_front : (n : ℕ) (to : List ℕ) (t : ℕ) → length (front n to t) ≡ 1 + width + width + length to + 1
 length_front n to t =
@@ -36,7 +31,7 @@ length_front n to t =
       length_counted to,
     )
 
-pub start_length : {n : ℕ} {to : List ℕ} {t more : ℕ} {d : List ℕ} {p : ℕ} {d₁ : List ℕ} → AfterStart n to t more d (At p) d₁ → length d₁ ≡ length d
+pub start_length : {n : ℕ} {to : List ℕ} {t more : ℕ} {d : List ℕ} {p : ℕ} {d₁ : List ℕ} → AfterStart n to t more d (Ok p) d₁ → length d₁ ≡ length d
 start_length {n} {to} {t} {more} {d} {p} {d₁} A =
     ap length A.is.3 ∙ length_placed d 0 (front n to t) (omega (arith, A.is.0, A.is.2))
 
@@ -45,8 +40,8 @@ module _ (f : Format) (v : Of f) (n : ℕ) (to : List ℕ) (t more : ℕ) (d : L
   whole : length (front n to t ++ encode f v) ≡ length (front n to t) + more
   whole = length-append (front n to t) (encode f v) ∙ ap (λ (k : ℕ). length (front n to t) + k) (sym long)
 
-  pub fields_written : {p : ℕ} {r : Bool} {d₁ d₂ : List ℕ} → AfterStart n to t more d (At p) d₁ → Good f v → Copied (encode f v) d₁ p r d₂
-      → AfterFields f v n to t d (Bytes (p + more)) d₂
+  pub fields_written : {p : ℕ} {r : Bool} {d₁ d₂ : List ℕ} → AfterStart n to t more d (Ok p) d₁ → Good f v → Copied (encode f v) d₁ p r d₂
+      → AfterFields f v n to t d (Ok (p + more)) d₂
   fields_written {p} {r} {d₁} {d₂} A g c =
       let (e, short, fits, is) = A.is in
       let room : 0 + (length (front n to t) + length (encode f v)) ≤ length d = omega (arith, e, fits, long) in
@@ -65,11 +60,9 @@ module _ (f : Format) (v : Of f) (n : ℕ) (to : List ℕ) (t more : ℕ) (d : L
         );
       }
 
-  pub fields_no_room : {d' : List ℕ} → AfterStart n to t more d NoRoomAtAll d' → AfterFields f v n to t d NoRoom d'
-  fields_no_room A = record { is = (A.is.0, omega (arith, A.is.1, whole)) }
-
-  pub fields_no_address : {d' : List ℕ} → AfterStart n to t more d NoAddress d' → AfterFields f v n to t d Invalid d'
-  fields_no_address A = record { is = (A.is.0, λ q g. omega (arith, A.is.1, q)) }
+  pub fields_refused : (e : Refused) {d' : List ℕ} → AfterStart n to t more d (Err e) d' → AfterFields f v n to t d (Err e) d'
+  fields_refused NoRoom A = record { is = (A.is.0, omega (arith, A.is.1, whole)) }
+  fields_refused Invalid A = record { is = (A.is.0, λ q g. omega (arith, A.is.1, q)) }
 
 -- ---- .. as a message of the table
 
@@ -98,10 +91,10 @@ module _ (b : Body) (n : ℕ) (to : List ℕ) (t : ℕ) (v : Of (fields t)) (d :
   sound : Valid (message n to b) → (length to < bytes_max) × Good (fields t) v
   sound g = (g.1.1.0.0, (subst (λ (x : Of body). Good body x) is g.1.1.1).1)
 
-  pub message_written : {r : Written} {d' : List ℕ} → AfterFields (fields t) v n to t d r d' → AfterWrite (message n to b) d r d'
+  pub message_written : {r : Result ℕ Refused} {d' : List ℕ} → AfterFields (fields t) v n to t d r d' → AfterWrite (message n to b) d r d'
   message_written {r} {d'} A = record { is = go r A.is }
     where
-      go : (r : Written) → FieldsCases (fields t) v n to t d r d' → WriteCases (message n to b) d r d'
-      go (Bytes k) (short, g, e, i) = (fine short g, e ∙ ap length bytes, i ∙ ap (placed d 0) bytes)
-      go NoRoom (i, h) = (i, subst (λ (x : List ℕ). length d < length x) bytes h)
-      go Invalid (i, never) = (i, λ g. never (sound g).0 (sound g).1)
+      go : (r : Result ℕ Refused) → FieldsCases (fields t) v n to t d r d' → WriteCases (message n to b) d r d'
+      go (Ok k) (short, g, e, i) = (fine short g, e ∙ ap length bytes, i ∙ ap (placed d 0) bytes)
+      go (Err NoRoom) (i, h) = (i, subst (λ (x : List ℕ). length d < length x) bytes h)
+      go (Err Invalid) (i, never) = (i, λ g. never (sound g).0 (sound g).1)

@@ -7,35 +7,26 @@ ghost use Rattle.fronts.specs.Front.{AfterStart, front};
 
 use format::WIDTH;
 use limits::BYTES_MAX;
+use message::Refused;
 
-// Where the fields of the body go, or why there is no message.
-#[derive(Clone, Copy)]
-pub enum Start {
-    At(usize),
-    NoRoom,
-    Invalid,
-}
-
-// The front of a message whose fields take `more` bytes.
-pub fn begin(n: u64, to: &[u8], kind: u8, more: usize, d: &mut [u8]) -> Start
+// The front of a message whose fields take `more` bytes: where those go, or why there is no message.
+// The kind is the byte of document 01, section 3, and stays a number: a type of the six kinds would ask more of callers.
+pub fn begin(n: u64, to: &[u8], kind: u8, more: usize, d: &mut [u8]) -> Result<usize, Refused>
     ensures { AfterStart n to.now kind more d.old result d.new }
 {
     if BYTES_MAX <= to.len() {
-        return Start::Invalid;
+        return Err(Refused::Invalid);
     }
     let last = 1 + WIDTH + WIDTH + to.len();
     let head = last + 1;
-    if d.len() < head {
-        return Start::NoRoom;
-    }
-    if d.len() - head < more {
-        return Start::NoRoom;
+    if d.len() < head || d.len() - head < more {
+        return Err(Refused::NoRoom);
     }
     writing::byte(0, d, 0);
     writing::number(n, d, 1);
     writing::text(to, d, 1 + WIDTH);
     writing::byte(kind, d, last);
-    Start::At(head)
+    Ok(head)
 }
 
 // The bytes that the front of a message to that destination takes, whatever its number and kind. What

@@ -8,11 +8,8 @@ use Prim.Native.Nat.{ℕ, ◌+◌, ◌-◌, ◌<◌}
 use lib.ListN.{take, drop}
 use Rattle.memory.proofs.Parts.{part_taken}
 use Rattle.message.specs.Message.{reply}
-use Rattle.records.specs.declared.Found.{Found}
-use Rattle.records.specs.declared.Found.TheVariants.{At, Nothing}
 use Rattle.records.specs.Answers.{Got}
 use Rattle.sending.specs.Answers.{AfterSend}
-use Rattle.message.specs.Given.{given}
 use native.Mathlib.Omega.{arith}
 use Rattle.limits.specs.Limits.{numbers}
 use Rattle.message.specs.Message.{Address}
@@ -20,8 +17,9 @@ use Rattle.delegation.specs.Map.{Owner}
 use Rattle.decoding.specs.Decode.{same}
 use Rattle.decoding.proofs.Decided.{same_refl}
 use Rattle.records.proofs.Laws.{keeps_short}
-use Rattle.picking.specs.declared.Picked.{Picked}
-use Rattle.picking.specs.declared.Picked.TheVariants.{Place, NoNumber, NoPlace}
+use Rattle.picking.specs.declared.Refused.{Refused}
+use Rattle.picking.specs.declared.Refused.TheVariants.{NoNumber, NoPlace}
+use Rattle.std.specs.Prelude.{Ok, Err, Some, None}
 use Rattle.picking.specs.Answers.{AfterPick}
 use Rattle.protocol.specs.State.{Host, Letter}
 use Rattle.protocol.specs.Owners.{owner_of}
@@ -42,13 +40,10 @@ use Rattle.referring.specs.Answers.{AfterRefer}
 use Rattle.referring.proofs.Laws.{given as was-given}
 use Rattle.getting.specs.Answers.{AfterValue, AfterRespond, AfterGet}
 
-pub got_as : {keys slots lens values : List ℕ} {n key : ℕ} {r s : Found} → r ≡ s → Got keys slots lens values n key r → Got keys slots lens values n key s
-got_as {keys} {slots} {lens} {values} {n} {key} e G = subst (Got keys slots lens values n key) e G
-
 module _ {keys slots lens values : List ℕ} {entries : ℕ} {name_lens names : List ℕ} {width : ℕ} {counts places mail : List ℕ}
     {size peer p x key : ℕ} {r : Bool} {counts' places' mail' : List ℕ} where
-  pub value_found : {at len : ℕ} → Got keys slots lens values entries key (At at len)
-      → AfterSend name_lens names width counts places mail size peer p x (λ n. Unit) (λ N. reply key (given true (take (at + len - at) (drop at values)))) r counts' places' mail'
+  pub value_found : {at len : ℕ} → Got keys slots lens values entries key (Some (at, len))
+      → AfterSend name_lens names width counts places mail size peer p x (λ n. Unit) (λ N. reply key (some (take (at + len - at) (drop at values)))) r counts' places' mail'
       → AfterValue keys slots lens values entries name_lens names width counts places mail size peer p x key r counts' places' mail'
   value_found {at} {len} G S = record {
     is = λ T K.
@@ -56,7 +51,7 @@ module _ {keys slots lens values : List ℕ} {entries : ℕ} {name_lens names : 
         (ap some (part_taken values at len) ∙ sym (G.is.1 T K)) S;
   }
 
-  pub value_none : Got keys slots lens values entries key Nothing
+  pub value_none : Got keys slots lens values entries key None
       → AfterSend name_lens names width counts places mail size peer p x (λ n. Unit) (λ N. reply key none) r counts' places' mail'
       → AfterValue keys slots lens values entries name_lens names width counts places mail size peer p x key r counts' places' mail'
   value_none G S = record {
@@ -152,7 +147,7 @@ module _ {m : Memory} {k : State} {key p x : ℕ} where
 -- ---- the Get
 
 module _ {m : Memory} {k : State} {key : ℕ} where
-  pub picks : {m' : Memory} {p x : ℕ} {r : Done} → AfterPick m.counts m.places k.from (Place p x) → AfterRespond m k key p x r m' → AfterGet m k key r m'
+  pub picks : {m' : Memory} {p x : ℕ} {r : Done} → AfterPick m.counts m.places k.from (Ok (p, x)) → AfterRespond m k key p x r m' → AfterGet m k key r m'
   picks A R = record {
     is = record {
       freed = R.is.freed;
@@ -161,7 +156,7 @@ module _ {m : Memory} {k : State} {key : ℕ} where
     };
   }
 
-  pub runs_out : {r : Done} → AfterPick m.counts m.places k.from NoNumber → r ≡ sent_or k false Dropped → AfterGet m k key r m
+  runs_out : {r : Done} → AfterPick m.counts m.places k.from (Err NoNumber) → r ≡ sent_or k false Dropped → AfterGet m k key r m
   runs_out {r} A e = subst (λ (d : Done). AfterGet m k key d m) (sym e) (record {
     is = record {
       freed = refl;
@@ -175,10 +170,12 @@ module _ {m : Memory} {k : State} {key : ℕ} where
       either h l C H false =
           unanswered m k h C k.from H.from_in l.from H.from_is (A.is m.mail k.size k.peers C.P C.post_kept H.from_in) _ _ _
 
-  pub no_place : {r : Done} → AfterPick m.counts m.places k.from NoPlace → r ≡ sent_or k false Dropped → AfterGet m k key r m
+  no_place : {r : Done} → AfterPick m.counts m.places k.from (Err NoPlace) → r ≡ sent_or k false Dropped → AfterGet m k key r m
   no_place {r} A e = subst (λ (d : Done). AfterGet m k key d m) (sym e) (record {
     is = record { freed = refl; is = λ h l C H q. absurd (all_taken m k h C A.is.0 q) };
   })
 
-pub pick_as : {counts places : List ℕ} {peer : ℕ} {r s : Picked} → r ≡ s → AfterPick counts places peer r → AfterPick counts places peer s
-pick_as {counts} {places} {peer} e A = subst (AfterPick counts places peer) e A
+  -- what is not picked is not answered
+  pub unpicked : (e : Refused) {r : Done} → AfterPick m.counts m.places k.from (Err e) → r ≡ sent_or k false Dropped → AfterGet m k key r m
+  unpicked NoNumber A q = runs_out A q
+  unpicked NoPlace A q = no_place A q

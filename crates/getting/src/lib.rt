@@ -3,94 +3,76 @@
 // the Reply waits.
 #![tactic(auto)]
 
-ghost use Rattle.hosts.specs.Memory.{memory};
+ghost use Rattle.hosts.specs.Memory.{memory_of};
+ghost use Rattle.lent.specs.Parts.{PostStays};
+ghost use Rattle.lent.specs.Contents.{index_seen, map_seen, post_now, strings_seen};
 ghost use Rattle.getting.specs.Answers.{AfterGet, AfterRespond, AfterValue};
 
 use hosts::{Done, Processed, State};
-use picking::Picked;
-use records::Found;
+use lent::{Index, Map, Post, Strings};
 
 // Processes the Get of a key. The Reply is put into the place of the hint, if that is free.
 pub fn get(
-    lows: &[u64],
-    owners: &[u64],
-    keys: &[u64],
-    slots: &[u64],
-    lens: &[u64],
-    values: &[u8],
-    name_lens: &[u64],
-    names: &[u8],
-    counts: &mut [u64],
-    places: &mut [u64],
+    map: Map<&[u64]>,
+    index: Index<&[u64]>,
+    values: Strings<&[u64], &[u8]>,
+    names: Strings<&[u64], &[u8]>,
+    post: &mut Post<&mut [u64]>,
     mail: &mut [u8],
     k: State,
     key: u64,
     hint: usize,
 ) -> Done
-    ensures { AfterGet
-        (memory lows.now owners.now keys.now slots.now lens.now values.now name_lens.now names.now counts.old places.old mail.old)
+    ensures stays { PostStays post.old post.new }
+    ensures is { AfterGet
+        (memory_of (map_seen map.entry) (index_seen index.entry) (strings_seen values.entry) (strings_seen names.entry) (post_now post.old) mail.old)
         k key result
-        (memory lows.now owners.now keys.now slots.now lens.now values.now name_lens.now names.now counts.new places.new mail.new) }
+        (memory_of (map_seen map.entry) (index_seen index.entry) (strings_seen values.entry) (strings_seen names.entry) (post_now post.new) mail.new) }
 {
-    let picked = picking::pick(counts, places, k.from, hint);
-    match picked {
-        Picked::Place(p, number) => respond(
-            lows, owners, keys, slots, lens, values, name_lens, names, counts, places, mail, k,
-            key, p, number,
-        ),
-        Picked::NoNumber => hosts::answered(k, false, Processed::Dropped),
-        Picked::NoPlace => hosts::answered(k, false, Processed::Dropped),
-    }
+    let seen = post.view();
+    let Ok((p, number)) = picking::pick(seen.counts, seen.places, k.from, hint) else {
+        return hosts::answered(k, false, Processed::Dropped);
+    };
+    respond(map, index, values, names, post, mail, k, key, p, number)
 }
 
 // Answers from the free place p, with that number.
 fn respond(
-    lows: &[u64],
-    owners: &[u64],
-    keys: &[u64],
-    slots: &[u64],
-    lens: &[u64],
-    values: &[u8],
-    name_lens: &[u64],
-    names: &[u8],
-    counts: &mut [u64],
-    places: &mut [u64],
+    map: Map<&[u64]>,
+    index: Index<&[u64]>,
+    values: Strings<&[u64], &[u8]>,
+    names: Strings<&[u64], &[u8]>,
+    post: &mut Post<&mut [u64]>,
     mail: &mut [u8],
     k: State,
     key: u64,
     p: usize,
     number: u64,
 ) -> Done
-    ensures { AfterRespond
-        (memory lows.now owners.now keys.now slots.now lens.now values.now name_lens.now names.now counts.old places.old mail.old)
+    ensures stays { PostStays post.old post.new }
+    ensures is { AfterRespond
+        (memory_of (map_seen map.entry) (index_seen index.entry) (strings_seen values.entry) (strings_seen names.entry) (post_now post.old) mail.old)
         k key p number result
-        (memory lows.now owners.now keys.now slots.now lens.now values.now name_lens.now names.now counts.new places.new mail.new) }
+        (memory_of (map_seen map.entry) (index_seen index.entry) (strings_seen values.entry) (strings_seen names.entry) (post_now post.new) mail.new) }
 {
-    let owner = delegation::owner(lows, owners, k.bounds, key) as usize;
+    let owner = delegation::owner(map.lows, map.owners, k.bounds, key) as usize;
     if owner != k.me {
-        return referring::refer(
-            name_lens, names, counts, places, mail, k, p, number, key, owner,
-        );
+        return referring::refer(names, post, mail, k, p, number, key, owner);
     }
     let sent = value(
-        keys, slots, lens, values, k.entries, name_lens, names, k.width, counts, places, mail,
-        k.size, k.from, p, number, key,
+        index, values, k.entries, names, k.width, post, mail, k.size, k.from, p, number, key,
     );
     hosts::answered(k, sent, Processed::Replied(p))
 }
 
 // Sends the peer the Reply with what the table has for the key.
 fn value(
-    keys: &[u64],
-    slots: &[u64],
-    lens: &[u64],
-    values: &[u8],
+    index: Index<&[u64]>,
+    values: Strings<&[u64], &[u8]>,
     entries: usize,
-    name_lens: &[u64],
-    names: &[u8],
+    names: Strings<&[u64], &[u8]>,
     width: usize,
-    counts: &mut [u64],
-    places: &mut [u64],
+    post: &mut Post<&mut [u64]>,
     mail: &mut [u8],
     size: usize,
     peer: usize,
@@ -98,43 +80,33 @@ fn value(
     number: u64,
     key: u64,
 ) -> bool
-    ensures { AfterValue keys.now slots.now lens.now values.now entries name_lens.now names.now width
-        counts.old places.old mail.old size peer p number key result counts.new places.new mail.new }
+    ensures stays { PostStays post.old post.new }
+    ensures is { AfterValue index.entry.keys.now index.entry.slots.now values.entry.lens.now values.entry.bytes.now entries names.entry.lens.now names.entry.bytes.now width
+        post.old.counts.now post.old.places.now mail.old size peer p number key result post.new.counts.now post.new.places.now mail.new }
 {
-    let found = records::get(keys, slots, lens, values, entries, key);
-    match found {
-        Found::At(at, len) => {
-            let end = at + len;
-            replying::reply(
-                name_lens,
-                names,
-                width,
-                counts,
-                places,
-                mail,
-                size,
-                peer,
-                p,
-                number,
-                key,
-                true,
-                &values[at..end],
-            )
-        }
-        Found::Nothing => replying::reply(
-            name_lens,
-            names,
-            width,
-            counts,
-            places,
-            mail,
-            size,
-            peer,
-            p,
-            number,
-            key,
-            false,
-            &values[0..0],
-        ),
-    }
+    let found = records::get(
+        index.keys,
+        index.slots,
+        values.lens,
+        values.bytes,
+        entries,
+        key,
+    );
+    let Some((at, len)) = found else {
+        return replying::reply(names, width, post, mail, size, peer, p, number, key, None);
+    };
+    let end = at + len;
+    let value = &values.bytes[at..end];
+    replying::reply(
+        names,
+        width,
+        post,
+        mail,
+        size,
+        peer,
+        p,
+        number,
+        key,
+        Some(value),
+    )
 }

@@ -7,8 +7,8 @@ ghost use Rattle.delegation.specs.Map.{AfterSet};
 ghost use Rattle.plans.specs.Plan.{Edited, key_of, count};
 ghost use Rattle.bounding.specs.Edit.{Editable, put};
 
-use delegation::Changed;
 use keys::Bound;
+use limits::NoRoom;
 use plans::Plan;
 
 // Gives the keys of [lo, hi) to the owner. An empty range changes nothing.
@@ -19,25 +19,25 @@ pub fn set(
     lo: Bound,
     hi: Bound,
     owner: u64,
-) -> Changed
+) -> Result<usize, NoRoom>
     ensures { AfterSet lows.old owners.old n lo hi owner result lows.new owners.new }
 {
     if !delegation::enough(lows, owners, n) {
-        return Changed::NoRoom;
+        return Err(NoRoom);
     }
     if keys::is_empty(lo, hi) {
-        return Changed::Bounds(n);
+        return Ok(n);
     }
     let plan = plans::planned(lows, owners, n, lo, hi, owner);
     if lows.len() < plan.bounds {
-        return Changed::NoRoom;
+        return Err(NoRoom);
     }
     if owners.len() < plan.bounds {
-        return Changed::NoRoom;
+        return Err(NoRoom);
     }
     edit(lows, n, plan, key(lo), key(hi));
     edit(owners, n, plan, owner, plan.after);
-    Changed::Bounds(plan.bounds)
+    Ok(plan.bounds)
 }
 
 // One column of a change. The bound at hi is put first, and then the one at lo before it.

@@ -15,15 +15,12 @@ use Rattle.message.specs.Message.{Address, delegate}
 use Rattle.message.specs.View.{bytes_of}
 use Rattle.delegating.specs.Columns.{entered, Columns}
 use Rattle.delegating.proofs.Entered.{entered_length}
-use Rattle.ranges.specs.declared.Picked.{Picked as Range}
-use Rattle.ranges.specs.declared.Picked.TheVariants.{Count, NoRoom as TooMany}
+use Rattle.std.specs.Prelude.{Ok, Err, Some, None}
+use Rattle.limits.specs.declared.NoRoom.{NoRoom}
 use Rattle.ranges.specs.Answers.{AfterPick as AfterRange}
 use Rattle.delegation.specs.Map.{room}
 use Rattle.delegation.proofs.Laws.{keeps_cong, takes_unique}
-use Rattle.peers.specs.declared.Peer.{Peer}
-use Rattle.peers.specs.declared.Peer.TheVariants.{Is, Unknown}
-use Rattle.picking.specs.declared.Picked.{Picked}
-use Rattle.picking.specs.declared.Picked.TheVariants.{Place, NoNumber, NoPlace}
+use Rattle.picking.specs.declared.Refused.TheVariants.{NoNumber, NoPlace}
 use Rattle.picking.specs.Answers.{AfterPick}
 use Rattle.sending.specs.Answers.{AfterSend}
 use Rattle.protocol.specs.Records.{in_range}
@@ -55,20 +52,17 @@ use Rattle.handing.proofs.Handed.{entered_range, delegate_valid, delegate_short,
 can_raise : (k : State) (x : ℕ) → k.transfers ≡ x → x < transfers_limit - 2 → suc k.transfers < numbers
 can_raise k x e q = omega (arith, e, q)
 
-module _ {lows owners keys slots values name_lens names counts places mail : List ℕ} {k : State} {lo hi : Bound} {i : ℕ} {ks ats ls : List ℕ} {m : ℕ}
-    {r : Picked} (A : AfterPick counts places i r) where
+module _ {lows owners keys slots values name_lens names counts places mail : List ℕ} {k : State} {lo hi : Bound} {i : ℕ} {ks ats ls : List ℕ} {m : ℕ} where
   -- no place is free: that is never so
-  pub no_place : {d : Done} → r ≡ NoPlace → d ≡ dropped_of k
+  pub no_place : {d : Done} → AfterPick counts places i (Err NoPlace) → d ≡ dropped_of k
       → AfterHand lows owners keys slots values name_lens names counts places mail k lo hi i ks ats ls m d lows owners keys slots counts places mail
-  no_place {d} e z =
-      let B = subst (AfterPick counts places i) e A in
+  no_place B z =
       record { freed = ap (λ (x : Done). x.state.len) z; is = λ lens h C R. absurd (all_taken _ k h C B.is.0 R.place) }
 
-  pub no_number : {t : State} → r ≡ NoNumber → t.len ≡ 0 → (suc k.transfers < numbers → t ≡ moved k k.bounds k.entries)
+  pub no_number : {t : State} → AfterPick counts places i (Err NoNumber) → t.len ≡ 0 → (suc k.transfers < numbers → t ≡ moved k k.bounds k.entries)
       → AfterHand lows owners keys slots values name_lens names counts places mail k lo hi i ks ats ls m (record { state = t; outcome = Unnumbered })
       lows owners keys slots counts places mail
-  no_number {t} e z M =
-      let B = subst (AfterPick counts places i) e A in
+  no_number B z M =
       record {
         freed = z;
         is = λ lens h C R.
@@ -78,14 +72,13 @@ module _ {lows owners keys slots values name_lens names counts places mail : Lis
             (unhanded _ k h C lo hi i R.host q);
       }
 
-  module _ {p x : ℕ} (e : r ≡ Place p x) (small : x < numbers) (known : (j : ℕ) → get_or ks j 0 < numbers) {t : Bool} {counts' places' mail' : List ℕ}
+  module _ {p x : ℕ} (B : AfterPick counts places i (Ok (p, x))) (small : x < numbers) (known : (j : ℕ) → get_or ks j 0 < numbers) {t : Bool} {counts' places' mail' : List ℕ}
       (S : AfterSend name_lens names k.width counts places mail k.size i p x (λ n. Columns ks ats ls values m)
       (λ N. delegate lo hi (entered ks ats ls values 0 m)) t counts' places' mail') where
     -- the Delegate is not written: that is never so
     pub not_sent : {d : Done} → t ≡ false → d ≡ dropped_of k
         → AfterHand lows owners keys slots values name_lens names counts places mail k lo hi i ks ats ls m d lows owners keys slots counts' places' mail'
-    not_sent {d} u z =
-        let B = subst (AfterPick counts places i) e A in
+    not_sent u z =
         record {
           freed = ap (λ (x : Done). x.state.len) z;
           is = λ lens h C R.
@@ -106,7 +99,6 @@ module _ {lows owners keys slots values name_lens names counts places mail : Lis
     pub sent : {d : Done} {lows' owners' keys' slots' : List ℕ} → t ≡ true → AfterGive lows owners keys slots k lo hi i p d lows' owners' keys' slots'
         → AfterHand lows owners keys slots values name_lens names counts places mail k lo hi i ks ats ls m d lows' owners' keys' slots' counts' places' mail'
     sent {d} {lows'} {owners'} {keys'} {slots'} u G =
-        let B = subst (AfterPick counts places i) e A in
         record {
           freed = G.freed;
           is = λ lens h C R.
@@ -139,12 +131,11 @@ module _ {lows owners keys slots values name_lens names counts places mail : Lis
 -- ---- the range's entries picked out
 
 module _ {lows owners keys slots lens values name_lens names counts places mail : List ℕ} {k : State} {lo hi : Bound} {i : ℕ}
-    {ks ats ls ks' ats' ls' : List ℕ} {r : Range} (A : AfterRange keys slots lens values k.entries lo hi ks ats ls r ks' ats' ls') where
+    {ks ats ls ks' ats' ls' : List ℕ} where
   -- they are too many
-  pub too_many : {d : Done} → r ≡ TooMany → entries_limit ≤ suc (min (length ks) (min (length ats) (length ls))) → d ≡ dropped_of k
+  pub too_many : {e : NoRoom} {d : Done} → AfterRange keys slots lens values k.entries lo hi ks ats ls (Err e) ks' ats' ls' → entries_limit ≤ suc (min (length ks) (min (length ats) (length ls))) → d ≡ dropped_of k
       → AfterOffer lows owners keys slots lens values name_lens names counts places mail k lo hi i d lows owners keys slots counts places mail
-  too_many {d} e q z =
-      let B = subst (λ (x : Range). AfterRange keys slots lens values k.entries lo hi ks ats ls x ks' ats' ls') e A in
+  too_many B q z =
       let M = memory lows owners keys slots lens values name_lens names counts places mail in
       record {
         freed = ap (λ (x : Done). x.state.len) z;
@@ -157,12 +148,11 @@ module _ {lows owners keys slots lens values name_lens names counts places mail 
       }
 
   pub offered : {m : ℕ} {d : Done} {lows' owners' keys' slots' counts' places' mail' : List ℕ}
-      → r ≡ Count m → suc (min (length ks) (min (length ats) (length ls))) ≤ entries_limit
+      → AfterRange keys slots lens values k.entries lo hi ks ats ls (Ok m) ks' ats' ls' → suc (min (length ks) (min (length ats) (length ls))) ≤ entries_limit
       → length ks' ≡ length ks → length ats' ≡ length ats → length ls' ≡ length ls
       → AfterHand lows owners keys slots values name_lens names counts places mail k lo hi i ks' ats' ls' m d lows' owners' keys' slots' counts' places' mail'
       → AfterOffer lows owners keys slots lens values name_lens names counts places mail k lo hi i d lows' owners' keys' slots' counts' places' mail'
-  offered {m} {d} {lows'} {owners'} {keys'} {slots'} {counts'} {places'} {mail'} e q l₀ l₁ l₂ H =
-      let B = subst (λ (x : Range). AfterRange keys slots lens values k.entries lo hi ks ats ls x ks' ats' ls') e A in
+  offered {m} {d} {lows'} {owners'} {keys'} {slots'} {counts'} {places'} {mail'} B q l₀ l₁ l₂ H =
       let M = memory lows' owners' keys' slots' lens values name_lens names counts' places' mail' in
       record {
         freed = H.freed;
@@ -208,12 +198,10 @@ module _ {lows owners keys slots lens values name_lens names counts places mail 
         };
       }
 
-  module _ {r : Peer} (A : AfterRecipient name_lens names k s to r) where
-    pub shard_nobody : {d : Done} → r ≡ Unknown → d ≡ dropped_of k
-        → AfterShard lows owners keys slots lens values name_lens names counts places mail k s lo hi to d lows owners keys slots counts places mail
-    shard_nobody e z =
-        let B = subst (AfterRecipient name_lens names k s to) e A in
-        drop z (λ h C l n. refused_recipient _ k h C lo hi (bytes_of s to) (B.is k.peers C.N C.names_kept C.says.few n.inside))
+  pub shard_nobody : {d : Done} → AfterRecipient name_lens names k s to None → d ≡ dropped_of k
+      → AfterShard lows owners keys slots lens values name_lens names counts places mail k s lo hi to d lows owners keys slots counts places mail
+  shard_nobody B z =
+      drop z (λ h C l n. refused_recipient _ k h C lo hi (bytes_of s to) (B.is k.peers C.N C.names_kept C.says.few n.inside))
 
   module _ {t : Bool} (A : Mine lows owners k lo hi t) where
     pub shard_other : {d : Done} → t ≡ false → d ≡ dropped_of k
@@ -221,12 +209,11 @@ module _ {lows owners keys slots lens values name_lens names counts places mail 
     shard_other e z = drop z (λ h C l n. refused_range _ k h C lo hi (bytes_of s to) (λ b. A.no e b C.f C.map_kept))
 
   -- the range is the host's own, and goes to another if its entries are few enough
-  pub shard_offered : {p : Peer} {i : ℕ} {t : Bool} {d : Done} {lows' owners' keys' slots' counts' places' mail' : List ℕ}
-      → AfterRecipient name_lens names k s to p → p ≡ Is i → Mine lows owners k lo hi t → t ≡ true
+  pub shard_offered : {i : ℕ} {t : Bool} {d : Done} {lows' owners' keys' slots' counts' places' mail' : List ℕ}
+      → AfterRecipient name_lens names k s to (Some i) → Mine lows owners k lo hi t → t ≡ true
       → AfterOffer lows owners keys slots lens values name_lens names counts places mail k lo hi i d lows' owners' keys' slots' counts' places' mail'
       → AfterShard lows owners keys slots lens values name_lens names counts places mail k s lo hi to d lows' owners' keys' slots' counts' places' mail'
-  shard_offered {p} {i} {t} {d} {lows'} {owners'} {keys'} {slots'} {counts'} {places'} {mail'} A e Q f O =
-      let B = subst (AfterRecipient name_lens names k s to) e A in
+  shard_offered {i} {t} {d} {lows'} {owners'} {keys'} {slots'} {counts'} {places'} {mail'} B Q f O =
       let M = memory lows' owners' keys' slots' lens values name_lens names counts' places' mail' in
       record {
         is = record {

@@ -3,29 +3,25 @@
 // has made sure that there is room.
 #![tactic(auto)]
 
+ghost use Rattle.lent.specs.Parts.{MapStays, IndexStays, PostStays};
 ghost use Rattle.handing.specs.Answers.{AfterShard};
 ghost use Rattle.handing.specs.Inner.{AfterOffer, AfterHand};
 
 use format::Part;
 use hosts::{Done, Processed, State};
 use keys::Bound;
+use lent::{Index, Map, Post, Strings};
 use limits::ENTRIES_LIMIT;
-use peers::Peer;
-use picking::Picked;
+use picking::Refused;
 
 // Processes the Shard whose recipient's address stands in the datagram s. The Delegate is put into the place
 // of the hint, if that is free.
 pub fn shard(
-    lows: &mut [u64],
-    owners: &mut [u64],
-    keys: &mut [u64],
-    slots: &mut [u64],
-    lens: &[u64],
-    values: &[u8],
-    name_lens: &[u64],
-    names: &[u8],
-    counts: &mut [u64],
-    places: &mut [u64],
+    map: &mut Map<&mut [u64]>,
+    index: &mut Index<&mut [u64]>,
+    values: Strings<&[u64], &[u8]>,
+    names: Strings<&[u64], &[u8]>,
+    post: &mut Post<&mut [u64]>,
     mail: &mut [u8],
     k: State,
     s: &[u8],
@@ -34,35 +30,28 @@ pub fn shard(
     to: Part,
     hint: usize,
 ) -> Done
-    ensures { AfterShard lows.old owners.old keys.old slots.old lens.now
-        values.now name_lens.now names.now counts.old places.old mail.old
-        k s.now lo hi to result lows.new owners.new keys.new slots.new counts.new
-        places.new mail.new }
+    ensures stays { MapStays map.old map.new × IndexStays index.old index.new × PostStays post.old post.new }
+    ensures is { AfterShard map.old.lows.now map.old.owners.now index.old.keys.now index.old.slots.now values.entry.lens.now
+        values.entry.bytes.now names.entry.lens.now names.entry.bytes.now post.old.counts.now post.old.places.now mail.old
+        k s.now lo hi to result map.new.lows.now map.new.owners.now index.new.keys.now index.new.slots.now post.new.counts.now
+        post.new.places.now mail.new }
 {
-    let Peer::Is(i) = shards::recipient(name_lens, names, k, s, to) else {
+    let Some(i) = shards::recipient(names, k, s, to) else {
         return hosts::dropped(k);
     };
-    if !shards::all_mine(lows, owners, k, lo, hi) {
+    if !shards::all_mine(map.view(), k, lo, hi) {
         return hosts::dropped(k);
     }
-    offer(
-        lows, owners, keys, slots, lens, values, name_lens, names, counts, places, mail, k, lo, hi,
-        i, hint,
-    )
+    offer(map, index, values, names, post, mail, k, lo, hi, i, hint)
 }
 
 // Picks the range's entries out and hands them over to host i, unless they are too many.
 fn offer(
-    lows: &mut [u64],
-    owners: &mut [u64],
-    keys: &mut [u64],
-    slots: &mut [u64],
-    lens: &[u64],
-    values: &[u8],
-    name_lens: &[u64],
-    names: &[u8],
-    counts: &mut [u64],
-    places: &mut [u64],
+    map: &mut Map<&mut [u64]>,
+    index: &mut Index<&mut [u64]>,
+    values: Strings<&[u64], &[u8]>,
+    names: Strings<&[u64], &[u8]>,
+    post: &mut Post<&mut [u64]>,
     mail: &mut [u8],
     k: State,
     lo: Bound,
@@ -70,37 +59,57 @@ fn offer(
     i: usize,
     hint: usize,
 ) -> Done
-    ensures { AfterOffer lows.old owners.old keys.old slots.old lens.now
-        values.now name_lens.now names.now counts.old places.old mail.old
-        k lo hi i result lows.new owners.new keys.new slots.new counts.new
-        places.new mail.new }
+    ensures stays { MapStays map.old map.new × IndexStays index.old index.new × PostStays post.old post.new }
+    ensures is { AfterOffer map.old.lows.now map.old.owners.now index.old.keys.now index.old.slots.now values.entry.lens.now
+        values.entry.bytes.now names.entry.lens.now names.entry.bytes.now post.old.counts.now post.old.places.now mail.old
+        k lo hi i result map.new.lows.now map.new.owners.now index.new.keys.now index.new.slots.now post.new.counts.now
+        post.new.places.now mail.new }
 {
     let mut ks = [0u64; ENTRIES_LIMIT - 1];
     let mut ats = [0u64; ENTRIES_LIMIT - 1];
     let mut ls = [0u64; ENTRIES_LIMIT - 1];
-    let ranges::Picked::Count(m) = ranges::pick(
-        keys, slots, lens, values, k.entries, lo, hi, &mut ks, &mut ats, &mut ls,
+    let table = index.view();
+    let Ok(m) = ranges::pick(
+        table.keys,
+        table.slots,
+        values.lens,
+        values.bytes,
+        k.entries,
+        lo,
+        hi,
+        &mut ks,
+        &mut ats,
+        &mut ls,
     ) else {
         return hosts::dropped(k);
     };
     hand(
-        lows, owners, keys, slots, values, name_lens, names, counts, places, mail, k, lo, hi, i,
-        &ks, &ats, &ls, m, hint,
+        map,
+        index,
+        values.bytes,
+        names,
+        post,
+        mail,
+        k,
+        lo,
+        hi,
+        i,
+        &ks,
+        &ats,
+        &ls,
+        m,
+        hint,
     )
 }
 
 // Sends the range's entries, which the columns have, to a peer, and gives it the range. Without a number
 // for the Delegate only the count of transfers is raised.
 fn hand(
-    lows: &mut [u64],
-    owners: &mut [u64],
-    keys: &mut [u64],
-    slots: &mut [u64],
-    values: &[u8],
-    name_lens: &[u64],
-    names: &[u8],
-    counts: &mut [u64],
-    places: &mut [u64],
+    map: &mut Map<&mut [u64]>,
+    index: &mut Index<&mut [u64]>,
+    bytes: &[u8],
+    names: Strings<&[u64], &[u8]>,
+    post: &mut Post<&mut [u64]>,
     mail: &mut [u8],
     k: State,
     lo: Bound,
@@ -112,26 +121,27 @@ fn hand(
     m: usize,
     hint: usize,
 ) -> Done
-    ensures { AfterHand lows.old owners.old keys.old slots.old values.now
-        name_lens.now names.now counts.old places.old mail.old k lo hi peer
-        ks.now ats.now ls.now m result lows.new owners.new keys.new
-        slots.new counts.new places.new mail.new }
+    ensures stays { MapStays map.old map.new × IndexStays index.old index.new × PostStays post.old post.new }
+    ensures is { AfterHand map.old.lows.now map.old.owners.now index.old.keys.now index.old.slots.now bytes.now
+        names.entry.lens.now names.entry.bytes.now post.old.counts.now post.old.places.now mail.old k lo hi peer
+        ks.now ats.now ls.now m result map.new.lows.now map.new.owners.now index.new.keys.now
+        index.new.slots.now post.new.counts.now post.new.places.now mail.new }
 {
-    match picking::pick(counts, places, peer, hint) {
-        Picked::Place(p, number) => {
+    let waiting = post.view();
+    match picking::pick(waiting.counts, waiting.places, peer, hint) {
+        Ok((p, number)) => {
             let sent = transferring::delegate(
-                name_lens, names, k.width, counts, places, mail, k.size, peer, p, number, lo, hi,
-                ks, ats, ls, m, values,
+                names, k.width, post, mail, k.size, peer, p, number, lo, hi, ks, ats, ls, m, bytes,
             );
             if !sent {
                 return hosts::dropped(k);
             }
-            giving::give(lows, owners, keys, slots, k, lo, hi, peer, p)
+            giving::give(map, index, k, lo, hi, peer, p)
         }
-        Picked::NoNumber => Done {
+        Err(Refused::NoNumber) => Done {
             state: hosts::moved(k, k.bounds, k.entries),
             outcome: Processed::Unnumbered,
         },
-        Picked::NoPlace => hosts::dropped(k),
+        Err(Refused::NoPlace) => hosts::dropped(k),
     }
 }

@@ -1,15 +1,13 @@
 -- What reading the peers' names and numbers says of the host that memory keeps.
 -- Assumes nothing.
-use mathlib.Core.Path.{◌≡◌, sym, ◌∙◌, subst}
+use mathlib.Core.Path.{sym, ◌∙◌}
 use mathlib.Core.Bool.{Bool, false, false≢true}
 use mathlib.Core.List.{List}
 use Prim.Native.Nat.{ℕ, ◌-◌, ◌<◌}
 use native.Mathlib.Omega.{arith}
 use Rattle.memory.specs.Bytes.{part, Same}
 use Rattle.message.specs.Message.{Address}
-use Rattle.peers.specs.declared.Peer.TheVariants.{Is, Unknown}
-use Rattle.peers.specs.declared.Where.{Where}
-use Rattle.peers.specs.declared.Where.TheVariants.{At as Between, Missing}
+use Rattle.std.specs.Prelude.{Some, None}
 use Rattle.peers.specs.Names.{AfterFind, AfterName}
 use Rattle.delivery.specs.declared.Counts.{Counts}
 use Rattle.delivery.specs.Answers.{Counted}
@@ -24,14 +22,10 @@ use Rattle.hearing.specs.Answers.{Last, Own}
 own_in : (m : Memory) (k : State) (h : Host) → Core m k h → k.me < k.peers
 own_in m k h C = omega (arith, C.says.own, C.says.few)
 
--- what was said of an answer holds of one that is equal to it
-pub name_as : {lens names : List ℕ} {w i : ℕ} {r s : Where} → r ≡ s → AfterName lens names w i r → AfterName lens names w i s
-name_as {lens} {names} {w} {i} e A = subst (λ (r : Where). AfterName lens names w i r) e A
-
 module _ {lens names : List ℕ} {k : State} {a : Address} where
   -- ---- the number of the last message from an address
 
-  pub last_known : {counts : List ℕ} {i : ℕ} {r : Counts} → AfterFind lens names k.width k.peers a (Is i) → Counted counts i r
+  pub last_known : {counts : List ℕ} {i : ℕ} {r : Counts} → AfterFind lens names k.width k.peers a (Some i) → Counted counts i r
       → Last lens names counts k a r.received
   last_known {counts} {i} F G = record {
     is = λ lows owners keys slots ls values places mail h C.
@@ -39,20 +33,20 @@ module _ {lens names : List ℕ} {k : State} {a : Address} where
         received_as (memory lows owners keys slots ls values lens names counts places mail) k h C i p.0 a p.1 G;
   }
 
-  pub last_unknown : {counts : List ℕ} → AfterFind lens names k.width k.peers a Unknown → Last lens names counts k a 0
+  pub last_unknown : {counts : List ℕ} → AfterFind lens names k.width k.peers a None → Last lens names counts k a 0
   last_unknown F = record {
     is = λ lows owners keys slots ls values places mail h C. sym (C.says.strange_received a (F.is C.N C.names_kept));
   }
 
   -- ---- the own address
 
-  pub nameless : AfterName lens names k.width k.me Missing → Own lens names k a false
+  pub nameless : AfterName lens names k.width k.me None → Own lens names k a false
   nameless A = record {
     yes = λ e. absurd (false≢true e);
     other = λ e lows owners keys slots ls values counts places mail h C q. A.is k.peers C.N C.names_kept (own_in _ k h C);
   }
 
-  pub compared : {from to : ℕ} {r : Bool} → AfterName lens names k.width k.me (Between from to) → Same (part names from (to - from)) a r
+  pub compared : {from to : ℕ} {r : Bool} → AfterName lens names k.width k.me (Some (from, to)) → Same (part names from (to - from)) a r
       → Own lens names k a r
   compared A S = record {
     yes = λ e lows owners keys slots ls values counts places mail h C.

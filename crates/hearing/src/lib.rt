@@ -5,7 +5,7 @@
 ghost use Rattle.hearing.specs.Answers.{Last, Own};
 
 use hosts::State;
-use peers::{Peer, Where};
+use lent::Strings;
 
 // The number of the last message that was taken from an address: 0 if none was. The peer is a hint, where the
 // address was found; of an address that was not it says nothing.
@@ -16,16 +16,15 @@ pub struct Heard {
 }
 
 // What was the last message that was taken from an address?
-pub fn last(name_lens: &[u64], names: &[u8], counts: &[u64], k: State, from: &[u8]) -> Heard
-    ensures { Last name_lens.now names.now counts.now k from.now result.number }
+pub fn last(names: Strings<&[u64], &[u8]>, counts: &[u64], k: State, from: &[u8]) -> Heard
+    ensures { Last names.entry.lens.now names.entry.bytes.now counts.now k from.now result.number }
 {
-    let found = finding::find(name_lens, names, k.width, k.peers, from);
-    match found {
-        Peer::Is(i) => Heard {
+    match finding::find(names.lens, names.bytes, k.width, k.peers, from) {
+        Some(i) => Heard {
             number: delivery::counts_of(counts, i).received,
             peer: i,
         },
-        Peer::Unknown => Heard {
+        None => Heard {
             number: 0,
             peer: k.peers,
         },
@@ -33,11 +32,11 @@ pub fn last(name_lens: &[u64], names: &[u8], counts: &[u64], k: State, from: &[u
 }
 
 // Is the address the host's own?
-pub fn own(name_lens: &[u64], names: &[u8], k: State, address: &[u8]) -> bool
-    ensures { Own name_lens.now names.now k address.now result }
+pub fn own(names: Strings<&[u64], &[u8]>, k: State, address: &[u8]) -> bool
+    ensures { Own names.entry.lens.now names.entry.bytes.now k address.now result }
 {
-    let Where::At(a, b) = peers::name(name_lens, names, k.width, k.me) else {
+    let Some((a, b)) = peers::name(names.lens, names.bytes, k.width, k.me) else {
         return false;
     };
-    memory::same(&names[a..b], address)
+    memory::same(&names.bytes[a..b], address)
 }

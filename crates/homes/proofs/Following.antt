@@ -26,8 +26,8 @@ use Rattle.hosts.specs.Answers.{sends_of as processedSends}
 use Rattle.hosts.specs.Keeps.{Keeps}
 use Rattle.incoming.specs.declared.Received.TheVariants.{Unfit}
 use Rattle.incoming.specs.Answers.{ack_length, sends_of as receivedSends, keeps_all}
-use Rattle.repeating.specs.declared.Repeated.{Repeated}
-use Rattle.repeating.specs.declared.Repeated.TheVariants.{Places, NoRoom}
+use Rattle.limits.specs.declared.NoRoom.{NoRoom}
+use Rattle.std.specs.Prelude.{Result, Ok, Err}
 use Rattle.repeating.specs.Answers.{AfterRepeat}
 use Rattle.rounds.specs.Answers.{sends_of as turnedSends}
 use Rattle.arriving.specs.Answers.{arriving}
@@ -124,15 +124,15 @@ module _ {hosts : List Address} {R R' : Homes} {W : World} (F : Follows hosts R 
       (numbers_as C.numbers_are (subst (λ (z : List ℕ). Keeps g.memory C.answer.state z (process f (W.state x)).state) (sym C.room_is) A.keeps))
       (C.sends_are ∙ ap (λ (k : State). processedSends g.memory k C.answer.outcome) C.numbers_are ∙ A.sends)
 
-  follows_repeat : (r : Repeated) (C : Repeats (R.home x) g sends) → C.answer ≡ r → Ends
-  follows_repeat (Places m) C e =
-      let A : AfterRepeat (R.home x).memory.counts (R.home x).memory.places (R.home x).numbers C.out (Places m) C.out' =
-      subst (λ (z : Repeated). AfterRepeat (R.home x).memory.counts (R.home x).memory.places (R.home x).numbers C.out z C.out') e C.after in
+  follows_repeat : (r : Result ℕ NoRoom) (C : Repeats (R.home x) g sends) → C.answer ≡ r → Ends
+  follows_repeat (Ok m) C e =
+      let A : AfterRepeat (R.home x).memory.counts (R.home x).memory.places (R.home x).numbers C.out (Ok m) C.out' =
+      subst (λ (z : Result ℕ NoRoom). AfterRepeat (R.home x).memory.counts (R.home x).memory.places (R.home x).numbers C.out z C.out') e C.after in
       let M = (R.home x).memory in
       one retransmitting (retransmit (W.state x)) refl (subst (λ (z : Home). Kept z (W.state x)) (sym C.home_is) (F.keeps x isHost))
-      (C.sends_are ∙ ap (λ (z : Repeated). repeated_sends (R.home x) z C.out') e
+      (C.sends_are ∙ ap (λ (z : Result ℕ NoRoom). repeated_sends (R.home x) z C.out') e
       ∙ A.is.1 M.lows M.owners M.keys M.slots M.lens M.values M.name_lens M.names M.mail (W.state x) (F.keeps x isHost).core)
-  follows_repeat NoRoom C e = ([], follows_none C.home_is (C.sends_are ∙ ap (λ (z : Repeated). repeated_sends (R.home x) z C.out') e))
+  follows_repeat (Err f) C e = ([], follows_none C.home_is (C.sends_are ∙ ap (λ (z : Result ℕ NoRoom). repeated_sends (R.home x) z C.out') e))
 
   -- the turn's datagram is the one that arrives
   as_arrived : (p : Option (Address × List ℕ)) (arrived : Bool) (a : Address) (s : List ℕ) → Arrived p arrived a s → arriving arrived a s ≡ p

@@ -1,7 +1,7 @@
 -- Hosts in lent memory, each called through its entry points, in any order, over the same network as in `world`. What a call does is what its
 -- contract says; nothing else is known of it.
 -- Assumes nothing.
-use Rattle.std.specs.Prelude.{◌≡◌, Bool, true, false, List, [], ◌++◌, ℕ, zero, suc, take}
+use Rattle.std.specs.Prelude.{◌≡◌, Bool, true, false, List, [], ◌++◌, ℕ, zero, suc, take, Result, Ok, Err}
 use Rattle.std.proofs.Math.Option.{Option, none, some}
 use Rattle.message.specs.Message.{Address}
 use Rattle.protocol.specs.Address.{among, at}
@@ -14,8 +14,7 @@ use Rattle.incoming.specs.declared.Arrival.{Arrival}
 use Rattle.incoming.specs.Answers.{sends_of as receivedSends}
 use Rattle.receiving.specs.Answers.{AfterReceive}
 use Rattle.processing.specs.Answers.{AfterProcess}
-use Rattle.repeating.specs.declared.Repeated.{Repeated}
-use Rattle.repeating.specs.declared.Repeated.TheVariants.{Places, NoRoom}
+use Rattle.limits.specs.declared.NoRoom.{NoRoom}
 use Rattle.repeating.specs.Answers.{AfterRepeat, packets}
 use Rattle.rounds.specs.declared.Ended.{Ended}
 use Rattle.rounds.specs.Answers.{sends_of as turnedSends}
@@ -52,14 +51,14 @@ pub record Processes (h h' : Home) (sends : List Packet) : Type 0 where
   pub sends_are : sends ≡ processedSends h'.memory h'.numbers answer.outcome
 
 -- the datagrams in the places that were written down, if they were
-abbrev pub repeated_sends : Home → Repeated → List ℕ → List Packet
-repeated_sends h (Places n) out = packets h.memory h.numbers n out
-repeated_sends h NoRoom out = []
+abbrev pub repeated_sends : Home → Result ℕ NoRoom → List ℕ → List Packet
+repeated_sends h (Ok n) out = packets h.memory h.numbers n out
+repeated_sends h (Err e) out = []
 
 pub record Repeats (h h' : Home) (sends : List Packet) : Type 0 where
   pub out : List ℕ
   pub out' : List ℕ
-  pub answer : Repeated
+  pub answer : Result ℕ NoRoom
   pub after : AfterRepeat h.memory.counts h.memory.places h.numbers out answer out'
   pub home_is : h' ≡ h
   pub sends_are : sends ≡ repeated_sends h answer out'

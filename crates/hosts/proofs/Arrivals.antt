@@ -11,7 +11,7 @@ use lib.ListN.{drop}
 use borrow.Author.Tests.{ne_eqb, eq-eqb}
 use Rattle.message.specs.Message.{Address, Body}
 use Rattle.records.specs.Table.{Table}
-use Rattle.peers.specs.declared.Peer.{Peer}
+use Rattle.std.specs.Prelude.{Option}
 use Rattle.peers.specs.Names.{joined as named, AfterFind, Keeps as KeepsNames}
 use Rattle.delivery.specs.Post.{Post, at, confirmed, took, joined}
 use Rattle.delivery.specs.Memory.{Keeps as KeepsPost}
@@ -209,8 +209,8 @@ holding k peers len from = record {
 }
 
 -- what was found of a peer holds of an answer that is equal to it
-pub find_as : {lens names : List ℕ} {w n : ℕ} {a : Address} {r s : Peer} → r ≡ s → AfterFind lens names w n a r → AfterFind lens names w n a s
-find_as {lens} {names} {w} {n} {a} e F = subst (λ (r : Peer). AfterFind lens names w n a r) e F
+pub find_as : {lens names : List ℕ} {w n : ℕ} {a : Address} {r s : Option ℕ} → r ≡ s → AfterFind lens names w n a r → AfterFind lens names w n a s
+find_as {lens} {names} {w} {n} {a} e F = subst (λ (r : Option ℕ). AfterFind lens names w n a r) e F
 
 module _ (m : Memory) (k : State) (h : Host) (C : Core m k h) where
   -- no peer has the address a

@@ -16,7 +16,8 @@ use Rattle.keys.specs.Bound.{holds}
 use Rattle.message.specs.Message.{Address}
 use Rattle.decoding.specs.Decode.{same}
 use Rattle.decoding.proofs.Decided.{same_refl}
-use Rattle.delegation.specs.declared.Changed.TheVariants.{NoRoom}
+use Rattle.std.specs.Prelude.{Err}
+use Rattle.limits.specs.declared.NoRoom.{NoRoom}
 use Rattle.delegation.specs.Map.{Takes, updated, room, AfterSet, Left}
 use Rattle.delegation.proofs.Laws.{keeps_cong, takes_unique}
 use Rattle.protocol.specs.Address.{among}
@@ -132,7 +133,7 @@ module _ (m : Memory) (k : State) (h : Host) (C : Core m k h) where
 
     -- what fits is not refused
     pub set_done : (lows owners : List ℕ) → Bounded (room m.lows m.owners) h (giving lo hi (C.N i) h.owners)
-        → AfterSet m.lows m.owners k.bounds lo hi i NoRoom lows owners → ⊥
+        → {e : NoRoom} → AfterSet m.lows m.owners k.bounds lo hi i (Err e) lows owners → ⊥
     set_done lows owners b s =
         let u = s.is.2 C.f C.map_kept in
         let t = takes_cong (λ x. sym (index_giving x)) b.1 in

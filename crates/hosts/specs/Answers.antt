@@ -33,51 +33,15 @@ sends_of m k (Handed p) = packet_at m k.width k.size p ∷ []
 
 -- the room is free
 abbrev pub emptied : State → State
-emptied k = record {
-  me = k.me;
-  hosts = k.hosts;
-  peers = k.peers;
-  width = k.width;
-  size = k.size;
-  bounds = k.bounds;
-  entries = k.entries;
-  len = 0;
-  from = k.from;
-  transfers = k.transfers;
-  turns = k.turns;
-}
+emptied k = record k { len = 0 }
 
 -- other entries
 abbrev pub filled : State → ℕ → State
-filled k entries = record {
-  me = k.me;
-  hosts = k.hosts;
-  peers = k.peers;
-  width = k.width;
-  size = k.size;
-  bounds = k.bounds;
-  entries = entries;
-  len = k.len;
-  from = k.from;
-  transfers = k.transfers;
-  turns = k.turns;
-}
+filled k entries = record k { entries = entries }
 
 -- the room is free, and a transfer was made or taken: other bounds and entries, and one more in the count
 abbrev pub moved : State → (bounds entries : ℕ) → State
-moved k bounds entries = record {
-  me = k.me;
-  hosts = k.hosts;
-  peers = k.peers;
-  width = k.width;
-  size = k.size;
-  bounds = bounds;
-  entries = entries;
-  len = 0;
-  from = k.from;
-  transfers = suc k.transfers;
-  turns = k.turns;
-}
+moved k bounds entries = record k { bounds = bounds; entries = entries; len = 0; transfers = suc k.transfers }
 
 -- memory keeps the host after the definition's step, and the outcome and the datagrams are the definition's
 pub record Does (m : Memory) (k : State) (r : Processed) (s : Step) : Type 0 where

@@ -1,6 +1,10 @@
 -- A host's lent memory as its slices, and what stands in it at one place: the name of a peer, a datagram that is handed out.
 -- Assumes nothing.
 use Rattle.std.specs.Prelude.{List, ℕ, ◌*◌, ◌-◌, get_or}
+use Rattle.lent.specs.declared.Map.{Map}
+use Rattle.lent.specs.declared.Index.{Index}
+use Rattle.lent.specs.declared.Strings.{Strings}
+use Rattle.lent.specs.declared.Post.{Post}
 use Rattle.memory.specs.Bytes.{part}
 use Rattle.message.specs.Message.{Address}
 use Rattle.delivery.specs.Memory.{mark_at, datagram_at}
@@ -34,6 +38,10 @@ memory lows owners keys slots lens values name_lens names counts places mail = r
   places = places;
   mail = mail;
 }
+
+-- the same from what stands in the parts that code is lent
+abbrev pub memory_of : Map (List ℕ) → Index (List ℕ) → (values names : Strings (List ℕ) (List ℕ)) → Post (List ℕ) → (mail : List ℕ) → Memory
+memory_of m x v n p mail = memory m.lows m.owners x.keys x.slots v.lens v.bytes n.lens n.bytes p.counts p.places mail
 
 -- the address of peer i
 abbrev pub name_at : (name_lens names : List ℕ) → ℕ → ℕ → Address

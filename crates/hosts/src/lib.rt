@@ -6,8 +6,6 @@ ghost use Rattle.std.specs.Prelude.{◌≡◌, suc, ◌<◌};
 ghost use Rattle.limits.specs.Limits.{numbers};
 ghost use Rattle.hosts.specs.Answers.{emptied, filled, moved, sent_or, dropped_of};
 
-use limits::NUMBER_MAX;
-
 // The plain numbers of a host. `me` is the own number among the peers, of whom the first `hosts` are the
 // hosts; names stand `width` bytes apart and datagrams `size`; `len` is the length of the datagram in the
 // room, 0 if it is free, and `from` the number of the peer that sent it.
@@ -50,38 +48,14 @@ pub struct Done {
 pub fn emptied(k: State) -> State
     ensures { result ≡ emptied k }
 {
-    State {
-        me: k.me,
-        hosts: k.hosts,
-        peers: k.peers,
-        width: k.width,
-        size: k.size,
-        bounds: k.bounds,
-        entries: k.entries,
-        len: 0,
-        from: k.from,
-        transfers: k.transfers,
-        turns: k.turns,
-    }
+    State { len: 0, ..k }
 }
 
 // The numbers with other entries.
 pub fn filled(k: State, entries: usize) -> State
     ensures { result ≡ filled k entries }
 {
-    State {
-        me: k.me,
-        hosts: k.hosts,
-        peers: k.peers,
-        width: k.width,
-        size: k.size,
-        bounds: k.bounds,
-        entries,
-        len: k.len,
-        from: k.from,
-        transfers: k.transfers,
-        turns: k.turns,
-    }
+    State { entries, ..k }
 }
 
 // The numbers with the room free after a transfer: other bounds and entries, and one more in the count,
@@ -89,22 +63,13 @@ pub fn filled(k: State, entries: usize) -> State
 pub fn moved(k: State, bounds: usize, entries: usize) -> State
     ensures { (result.len ≡ 0) × (suc k.transfers < numbers → result ≡ moved k bounds entries) }
 {
-    let mut transfers = k.transfers;
-    if transfers < NUMBER_MAX {
-        transfers += 1;
-    }
+    let transfers = k.transfers.saturating_add(1);
     State {
-        me: k.me,
-        hosts: k.hosts,
-        peers: k.peers,
-        width: k.width,
-        size: k.size,
         bounds,
         entries,
         len: 0,
-        from: k.from,
         transfers,
-        turns: k.turns,
+        ..k
     }
 }
 

@@ -1,24 +1,24 @@
 -- The answers to a message that is not taken: it is for another host, was taken before, or is from the future. The next one from its sender is
 -- passed on.
 -- Assumes nothing.
-use mathlib.Core.Path.{◌≡◌, refl, sym, ap, ◌∙◌, subst}
+use mathlib.Core.Path.{◌≡◌, refl, ◌∙◌}
 use mathlib.Core.Bool.{true, false}
-use mathlib.Core.List.{List, [], ◌∷◌}
-use mathlib.Core.Option.{Option, none, some}
+use mathlib.Core.List.{List}
+use Rattle.std.specs.Prelude.{Result, Some}
+use mathlib.Core.Option.{some}
 use Prim.Native.Nat.{ℕ, suc}
 use native.Mathlib.Omega.{arith}
 use borrow.Author.Tests.{le-leb, lt-leb, ne_eqb}
 use Rattle.format.specs.declared.Part.{Part}
-use Rattle.message.specs.Message.{Address, Datagram, message, ack}
+use Rattle.message.specs.Message.{Address, message, ack}
 use Rattle.message.specs.View.{bytes_of, body_of}
 use Rattle.message.specs.Answers.{AfterParse, AfterWrite}
 use Rattle.message.specs.declared.BodyView.{BodyView}
 use Rattle.message.specs.declared.Parsed.TheVariants.{Message}
-use Rattle.message.specs.declared.Written.{Written}
+use Rattle.message.specs.declared.Refused.{Refused}
 use Rattle.decoding.specs.Decode.{read}
 use Rattle.decoding.proofs.Laws.{parse_reads}
 use Rattle.protocol.specs.State.{Host}
-use Rattle.protocol.specs.Delivery.{Step}
 use Rattle.protocol.specs.Receive.{receive}
 use Rattle.hosts.specs.declared.State.{State}
 use Rattle.hosts.specs.Memory.{memory}
@@ -29,48 +29,35 @@ use Rattle.sorting.specs.declared.Kind.TheVariants.{Elsewhere, Again, Future, Ne
 use Rattle.sorting.specs.Answers.{Sorted, AfterSort}
 use Rattle.incoming.specs.declared.Received.TheVariants.{Elsewhere as ForAnother, Again as TakenBefore, Future as TooEarly}
 use Rattle.incoming.specs.declared.Arrival.{Arrival}
-use Rattle.incoming.specs.Answers.{Receives}
 use Rattle.incoming.specs.Handled.{leaving, Handled, Next}
 use Rattle.incoming.proofs.Laws.{not_unfit, ack_written, stays, step_read, step_number}
 
--- the parts of a message; of anything else, anything
-abbrev number_in : Option Datagram → ℕ
-number_in none = 0
-number_in (some (message n to b)) = n
-number_in (some (ack n)) = 0
-
-abbrev to_in : Option Datagram → Address
-to_in none = []
-to_in (some (message n to b)) = to
-to_in (some (ack n)) = []
-
 -- it is for this host
-mine : (h : Host) {s : List ℕ} {n : ℕ} {to : Part} {b : BodyView} → bytes_of s to ≡ h.me → AfterParse s (Message n to b)
+mine : (h : Host) {s : List ℕ} {n : ℕ} {to : Part} {b : BodyView} → bytes_of s to ≡ h.me → AfterParse s (Some (Message n to b))
     → read s ≡ some (message n h.me (body_of s b))
-mine h {s} {n} {to} {b} e A = parse_reads s (Message n to b) A ∙ ap (λ (t : Address). some (message n t (body_of s b))) e
+mine h {s} {n} {to} {b} e A = rw (← e) (parse_reads s (Some (Message n to b)) A)
 
--- what was said of the message, at the answer that was matched
+-- what was said of the message
 said : {lows owners keys slots lens values name_lens names counts places mail : List ℕ} {k : State} {a : Address} {s : List ℕ} {n : ℕ} {to : Part} {b : BodyView}
-    {q : Kind} → AfterSort name_lens names counts k a s n to q → (x : Kind) → q ≡ x → (h : Host)
-    → Core (memory lows owners keys slots lens values name_lens names counts places mail) k h → AfterParse s (Message n to b)
+    {x : Kind} → AfterSort name_lens names counts k a s n to x → (h : Host)
+    → Core (memory lows owners keys slots lens values name_lens names counts places mail) k h → AfterParse s (Some (Message n to b))
     → Sorted x h a (bytes_of s to) n
-said {lows} {owners} {keys} {slots} {lens} {values} {places = places} {mail = mail} {a = a} {s = s} {n = n} {to = to} S x e h C A =
-    subst (λ (y : Kind). Sorted y h a (bytes_of s to) n) e (S.is lows owners keys slots lens values places mail h C A.is.2)
+said {lows} {owners} {keys} {slots} {lens} {values} {places = places} {mail = mail} S h C A = S.is lows owners keys slots lens values places mail h C A.is.2
 
 module _ {lows owners keys slots name_lens names counts places : List ℕ} {k : State} {room : List ℕ} {a : Address} {s d : List ℕ} {n : ℕ} {to : Part}
-    {b : BodyView} {q : Kind} (S : AfterSort name_lens names counts k a s n to q) where
-  pub elsewhere : q ≡ Elsewhere → (lens values mail : List ℕ)
-      → Handled (λ h. AfterParse s (Message n to b)) (memory lows owners keys slots lens values name_lens names counts places mail) k room a s d
+    {b : BodyView} where
+  pub elsewhere : AfterSort name_lens names counts k a s n to Elsewhere → (lens values mail : List ℕ)
+      → Handled (λ h. AfterParse s (Some (Message n to b))) (memory lows owners keys slots lens values name_lens names counts places mail) k room a s d
       (leaving k ForAnother)
       (memory lows owners keys slots lens values name_lens names counts places mail)
       room
       d
-  elsewhere o lens values mail = record {
+  elsewhere S lens values mail = record {
     is = λ h A K e q.
-        let r = parse_reads s (Message n to b) A in
-        let f : bytes_of s to ≡ h.me → ⊥ = said S Elsewhere o h K.core A in (
+        let r = parse_reads s (Some (Message n to b)) A in
+        let f : bytes_of s to ≡ h.me → ⊥ = said S h K.core A in (
           false,
-          λ x c z g y. absurd (f (ap to_in (sym r ∙ g))),
+          λ x c z g y. absurd (f (cc)),
           stays a d K ForAnother refl (receive false h a s)
               (step_read h a s e false (some (message n (bytes_of s to) (body_of s b))) r ∙ rw (same_false (bytes_of s to) h.me f) refl),
         );
@@ -78,43 +65,37 @@ module _ {lows owners keys slots name_lens names counts places : List ℕ} {k : 
     fit = not_unfit ForAnother tt;
   }
 
-  pub again : q ≡ Again → {w : Written} {d' : List ℕ} → AfterWrite (ack n) d w d' → (lens values mail : List ℕ)
-      → Handled (λ h. AfterParse s (Message n to b)) (memory lows owners keys slots lens values name_lens names counts places mail) k room a s d
+  pub again : AfterSort name_lens names counts k a s n to Again → {w : Result ℕ Refused} {d' : List ℕ} → AfterWrite (ack n) d w d' → (lens values mail : List ℕ)
+      → Handled (λ h. AfterParse s (Some (Message n to b))) (memory lows owners keys slots lens values name_lens names counts places mail) k room a s d
       (leaving k TakenBefore)
       (memory lows owners keys slots lens values name_lens names counts places mail)
       room
       d'
-  again o {w} {d'} W lens values mail = record {
+  again S {w} {d'} W lens values mail = record {
     is = λ h A K e q.
-        let t = said S Again o h K.core A in
+        let t = said S h K.core A in
         let r = mine h t.0 A in (
           false,
-          λ x c z g y. let u : n ≡ x = ap number_in (sym r ∙ g) in absurd (omega (arith, t.1, u, y)),
-          subst (λ (u : Step). Receives (memory lows owners keys slots lens values name_lens names counts places mail) k room a d' TakenBefore u)
-              (sym
-              (step_number h a s e false n (body_of s b) r false true (ne_eqb n (suc (h.received a)) (λ u. omega (arith, t.1, u))) (le-leb n (h.received a) t.1)))
-              (record {
-                keeps = K;
-                outcome = refl;
-                sends = ap (λ (x : List ℕ). record { to = a; bytes = x } ∷ []) (ack_written n d w d' W A.is.0.1.0 q);
-              }),
+          λ x c z g y. let u : n ≡ x = cc in absurd (omega (arith, t.1, u, y)),
+          rw (step_number h a s e false n (body_of s b) r false true (ne_eqb n (suc (h.received a)) (λ u. omega (arith, t.1, u))) (le-leb n (h.received a) t.1))
+              (record { keeps = K; outcome = refl; sends = rw (ack_written n d w d' W A.is.0.1.0 q) refl }),
         );
     same = λ e. (refl, refl, refl);
     fit = not_unfit TakenBefore tt;
   }
 
-  pub future : q ≡ Future → (lens values mail : List ℕ)
-      → Handled (λ h. AfterParse s (Message n to b)) (memory lows owners keys slots lens values name_lens names counts places mail) k room a s d
+  pub future : AfterSort name_lens names counts k a s n to Future → (lens values mail : List ℕ)
+      → Handled (λ h. AfterParse s (Some (Message n to b))) (memory lows owners keys slots lens values name_lens names counts places mail) k room a s d
       (leaving k TooEarly)
       (memory lows owners keys slots lens values name_lens names counts places mail)
       room
       d
-  future o lens values mail = record {
+  future S lens values mail = record {
     is = λ h A K e q.
-        let t = said S Future o h K.core A in
+        let t = said S h K.core A in
         let r = mine h t.0 A in (
           false,
-          λ x c z g y. let u : n ≡ x = ap number_in (sym r ∙ g) in absurd (omega (arith, t.1, u, y)),
+          λ x c z g y. let u : n ≡ x = cc in absurd (omega (arith, t.1, u, y)),
           stays a d K TooEarly refl (receive false h a s)
               (step_number h a s e false n (body_of s b) r false false (ne_eqb n (suc (h.received a)) (λ u. omega (arith, t.1, u))) (lt-leb n (h.received a) (omega (arith, t.1)))),
         );
@@ -123,17 +104,17 @@ module _ {lows owners keys slots name_lens names counts places : List ℕ} {k : 
   }
 
   -- the next from its sender
-  pub passed_on : {i : ℕ} → q ≡ Following i → {r : Arrival} {nameLens' names' counts' room' d' : List ℕ} → ((lens values mail : List ℕ)
+  pub passed_on : {i : ℕ} → AfterSort name_lens names counts k a s n to (Following i) → {r : Arrival} {nameLens' names' counts' room' d' : List ℕ} → ((lens values mail : List ℕ)
       → Handled (Next a s n b) (memory lows owners keys slots lens values name_lens names counts places mail) k room a s d r (memory lows owners keys slots lens values nameLens' names' counts' places mail) room' d')
       → (lens values mail : List ℕ)
-      → Handled (λ h. AfterParse s (Message n to b)) (memory lows owners keys slots lens values name_lens names counts places mail) k room a s d
+      → Handled (λ h. AfterParse s (Some (Message n to b))) (memory lows owners keys slots lens values name_lens names counts places mail) k room a s d
       r
       (memory lows owners keys slots lens values nameLens' names' counts' places mail)
       room'
       d'
-  passed_on {i} o H lens values mail = record {
+  passed_on S H lens values mail = record {
     is = λ h A K e q.
-        let t = said S (Following i) o h K.core A in
+        let t = said S h K.core A in
         (H lens values mail).is h (record { is = mine h t.0 A; body_in = A.is.3; next = t.1 }) K e q;
     same = (H lens values mail).same;
     fit = (H lens values mail).fit;

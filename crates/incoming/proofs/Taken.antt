@@ -3,7 +3,8 @@
 use mathlib.Core.Path.{◌≡◌, refl, sym, ap, ◌∙◌, subst}
 use mathlib.Core.Bool.{Bool, true, false, true≢false, false≢true}
 use mathlib.Core.List.{List, [], ◌∷◌}
-use mathlib.Core.Option.{Option, none, some}
+use Rattle.std.specs.Prelude.{Result, Ok, Err}
+use mathlib.Core.Option.{Option as Maybe, none, some}
 use Prim.Native.Nat.{ℕ, suc}
 use lib.ListN.{length}
 use lib.Dec.{leb}
@@ -12,7 +13,7 @@ use Rattle.message.specs.Message.{Address, Body, get, Datagram, message, ack}
 use Rattle.message.specs.View.{body_of}
 use Rattle.message.specs.Answers.{AfterWrite}
 use Rattle.message.specs.declared.BodyView.{BodyView}
-use Rattle.message.specs.declared.Written.{Written}
+use Rattle.message.specs.declared.Refused.{Refused}
 use Rattle.decoding.proofs.Laws.{read_some}
 use Rattle.protocol.specs.State.{Host, Letter}
 use Rattle.protocol.specs.Delivery.{Step}
@@ -22,8 +23,7 @@ use Rattle.hosts.specs.Memory.{memory}
 use Rattle.hosts.specs.Limits.{Needs}
 use Rattle.hosts.specs.Keeps.{limits_of}
 use Rattle.rooms.specs.Answers.{Tested as RoomTested}
-use Rattle.taking.specs.declared.Taken.{Taken as Took}
-use Rattle.taking.specs.declared.Taken.TheVariants.{Now, NoRoom}
+use Rattle.limits.specs.declared.NoRoom.{NoRoom}
 use Rattle.taking.specs.Answers.{AfterTake}
 use Rattle.incoming.specs.declared.Received.TheVariants.{Taken, Unreceived}
 use Rattle.incoming.specs.Answers.{Receives}
@@ -31,15 +31,8 @@ use Rattle.incoming.specs.Handled.{leaving, Handled, Next}
 use Rattle.incoming.proofs.Room.{keeps_letter, was_roomy}
 use Rattle.incoming.proofs.Laws.{not_unfit, ack_written, stays, step_number}
 
--- what was said of an answer holds of one that is equal to it
-pub take_as : {name_lens names counts room : List ℕ} {k : State} {a : Address} {x : ℕ} {s : List ℕ} {r t : Took} {nameLens' names' counts' room' : List ℕ}
-    → r ≡ t → AfterTake name_lens names counts room k a x s r nameLens' names' counts' room'
-    → AfterTake name_lens names counts room k a x s t nameLens' names' counts' room'
-take_as {name_lens} {names} {counts} {room} {k} {a} {x} {s} {nameLens' = nameLens'} {names' = names'} {counts' = counts'} {room' = room'} e A =
-    subst (λ (r : Took). AfterTake name_lens names counts room k a x s r nameLens' names' counts' room') e A
-
 -- the body of a message; of anything else, any
-abbrev body_in : Option Datagram → Body
+abbrev body_in : Maybe Datagram → Body
 body_in none = get 0
 body_in (some (message n to b)) = b
 body_in (some (ack n)) = get 0
@@ -53,12 +46,12 @@ step_is {a} {s} {n} {b} roomy h X e =
 module _ {lows owners keys slots name_lens names counts places : List ℕ} {k : State} {room : List ℕ} {a : Address} {s d : List ℕ} {n : ℕ} {b : BodyView} where
   -- ---- there is no room
 
-  pub unroomy : {t : Bool} → RoomTested lows owners keys slots name_lens names places k a s b t → t ≡ false → (lens values mail : List ℕ)
+  pub unroomy : RoomTested lows owners keys slots name_lens names places k a s b false → (lens values mail : List ℕ)
       → Handled (Next a s n b) (memory lows owners keys slots lens values name_lens names counts places mail) k room a s d (leaving k Unreceived)
       (memory lows owners keys slots lens values name_lens names counts places mail)
       room
       d
-  unroomy T f lens values mail =
+  unroomy T lens values mail =
       let m = memory lows owners keys slots lens values name_lens names counts places mail in
       record {
         is = λ h X K e q. (
@@ -67,7 +60,7 @@ module _ {lows owners keys slots name_lens names counts places : List ℕ} {k : 
             λ o. absurd (false≢true o),
             λ o R.
                 let l : Letter = record { from = a; number = x; body = c } in
-                T.lacks f lens values counts mail room h l K.core refl X.body_in
+                T.lacks refl lens values counts mail room h l K.core refl X.body_in
                 (subst (λ (v : Body). Needs (limits_of m k room) h l v) (sym (ap body_in (sym X.is ∙ g))) R.needs),
           ),
           stays a d K Unreceived refl (receive false h a s) (step_is false h X e),
@@ -76,7 +69,7 @@ module _ {lows owners keys slots name_lens names counts places : List ℕ} {k : 
         fit = not_unfit Unreceived tt;
       }
 
-  pub no_room : {nameLens' names' counts' room' : List ℕ} → AfterTake name_lens names counts room k a n s NoRoom nameLens' names' counts' room'
+  pub no_room : {x : NoRoom} {nameLens' names' counts' room' : List ℕ} → AfterTake name_lens names counts room k a n s (Err x) nameLens' names' counts' room'
       → (lens values mail : List ℕ)
       → Handled (Next a s n b) (memory lows owners keys slots lens values name_lens names counts places mail) k room a s d (leaving k Unreceived)
       (memory lows owners keys slots lens values nameLens' names' counts' places mail)
@@ -95,9 +88,9 @@ module _ {lows owners keys slots name_lens names counts places : List ℕ} {k : 
 
   -- ---- it is taken
 
-  pub taken : {t : Bool} → RoomTested lows owners keys slots name_lens names places k a s b t → t ≡ true
-      → {nameLens' names' counts' room' d' : List ℕ} {k' : State} {w : Written} {p : ℕ}
-      → AfterTake name_lens names counts room k a n s (Now k') nameLens' names' counts' room' → AfterWrite (ack n) d w d'
+  pub taken : RoomTested lows owners keys slots name_lens names places k a s b true
+      → {nameLens' names' counts' room' d' : List ℕ} {k' : State} {w : Result ℕ Refused} {p : ℕ}
+      → AfterTake name_lens names counts room k a n s (Ok k') nameLens' names' counts' room' → AfterWrite (ack n) d w d'
       → length nameLens' ≡ length name_lens → length names' ≡ length names → length counts' ≡ length counts → length room' ≡ length room
       → (lens values mail : List ℕ)
       → Handled (Next a s n b) (memory lows owners keys slots lens values name_lens names counts places mail) k room a s d
@@ -105,7 +98,7 @@ module _ {lows owners keys slots name_lens names counts places : List ℕ} {k : 
       (memory lows owners keys slots lens values nameLens' names' counts' places mail)
       room'
       d'
-  taken T f {nameLens'} {names'} {counts'} {room'} {d'} {k'} {w} Z W p1 p2 p3 p4 lens values mail =
+  taken T {nameLens'} {names'} {counts'} {room'} {d'} {k'} {w} Z W p1 p2 p3 p4 lens values mail =
       let m = memory lows owners keys slots lens values name_lens names counts places mail in
       let m' = memory lows owners keys slots lens values nameLens' names' counts' places mail in
       record {
@@ -115,7 +108,7 @@ module _ {lows owners keys slots name_lens names counts places : List ℕ} {k : 
             let N : (x : ℕ) (c : Body) → c' ≡ c → Needs (limits_of m k room) h (record { from = a; number = x; body = c }) c =
             λ x c v.
             subst (λ (u : Body). Needs (limits_of m k room) h (record { from = a; number = x; body = c }) u) v
-            (T.roomy f lens values counts mail room h (record { from = a; number = x; body = c }) K.core refl X.body_in) in (
+            (T.roomy refl lens values counts mail room h (record { from = a; number = x; body = c }) K.core refl X.body_in) in (
               true,
               λ x c z g y. (
                 λ o.

@@ -3,20 +3,22 @@
 // neither taken nor acknowledged. What became of a datagram is named here too, for `receiving` and its callers.
 #![tactic(auto)]
 
-ghost use Rattle.std.specs.Prelude.{◌≡◌, List, ℕ};
+ghost use Rattle.std.specs.Prelude.{◌≡◌, List, ℕ, Some};
 ghost use Rattle.message.specs.Answers.{AfterParse};
 ghost use Rattle.message.specs.declared.Parsed.TheVariants.{Message};
+ghost use Rattle.lent.specs.Parts.{StringsStay};
 ghost use Rattle.hosts.specs.Memory.{memory};
 ghost use Rattle.incoming.specs.Handled.{leaving, Handled, Next};
 
 use format::Part;
 use hosts::State;
+use lent::{Index, Map, Strings};
+use limits::NoRoom;
 use message::BodyView;
 use sorting::Kind;
-use taking::Taken as Took;
 
 // What became of a datagram. Unfit: what was lent for the Ack is too short, and nothing was done.
-#[derive(Clone, Copy)]
+#[derive(Clone, Copy, Debug, PartialEq, Eq)]
 pub enum Received {
     Full,
     Invalid,
@@ -53,12 +55,9 @@ pub fn left(k: State, outcome: Received) -> Arrival
 // The message with that number for that address arrives. One that was taken before is only acknowledged
 // again.
 pub fn message(
-    lows: &[u64],
-    owners: &[u64],
-    keys: &[u64],
-    slots: &[u64],
-    name_lens: &mut [u64],
-    names: &mut [u8],
+    map: Map<&[u64]>,
+    index: Index<&[u64]>,
+    names: &mut Strings<&mut [u64], &mut [u8]>,
     counts: &mut [u64],
     places: &[u64],
     room: &mut [u8],
@@ -70,21 +69,22 @@ pub fn message(
     to: Part,
     body: BodyView,
 ) -> Arrival
-    ensures { (lens values mail : List ℕ) → Handled (λ h. AfterParse s.now (Message n to body)) (memory lows.now owners.now keys.now slots.now lens values name_lens.old names.old counts.old places.now mail)
+    ensures stays { StringsStay names.old names.new }
+    ensures is { (lens values mail : List ℕ) → Handled (λ h. AfterParse s.now (Some (Message n to body)))
+        (memory map.entry.lows.now map.entry.owners.now index.entry.keys.now index.entry.slots.now lens values names.old.lens.now names.old.bytes.now counts.old places.now mail)
         k room.old from.now s.now ack.old result
-        (memory lows.now owners.now keys.now slots.now lens values name_lens.new names.new counts.new places.now mail) room.new ack.new }
+        (memory map.entry.lows.now map.entry.owners.now index.entry.keys.now index.entry.slots.now lens values names.new.lens.now names.new.bytes.now counts.new places.now mail) room.new ack.new }
 {
-    let kind = sorting::sort(name_lens, names, counts, k, from, s, n, to);
-    match kind {
+    match sorting::sort(names.view(), counts, k, from, s, n, to) {
         Kind::Elsewhere => left(k, Received::Elsewhere),
         Kind::Again => {
-            composing::ack(n, ack);
+            // it fits: what is lent for an Ack is looked at by `receiving`
+            let _ = composing::ack(n, ack);
             left(k, Received::Again)
         }
         Kind::Future => left(k, Received::Future),
         Kind::Next(peer) => fresh(
-            lows, owners, keys, slots, name_lens, names, counts, places, room, ack, k, from, s, n,
-            body, peer,
+            map, index, names, counts, places, room, ack, k, from, s, n, body, peer,
         ),
     }
 }
@@ -92,12 +92,9 @@ pub fn message(
 // The next message from its sender, for this host, is taken and acknowledged, if there is room for it. The
 // sender is looked for first at the peer of the hint.
 fn fresh(
-    lows: &[u64],
-    owners: &[u64],
-    keys: &[u64],
-    slots: &[u64],
-    name_lens: &mut [u64],
-    names: &mut [u8],
+    map: Map<&[u64]>,
+    index: Index<&[u64]>,
+    names: &mut Strings<&mut [u64], &mut [u8]>,
     counts: &mut [u64],
     places: &[u64],
     room: &mut [u8],
@@ -109,26 +106,25 @@ fn fresh(
     body: BodyView,
     hint: usize,
 ) -> Arrival
-    ensures { (lens values mail : List ℕ) → Handled (Next from.now s.now n body) (memory lows.now owners.now keys.now slots.now lens values name_lens.old names.old counts.old places.now mail)
+    ensures stays { StringsStay names.old names.new }
+    ensures is { (lens values mail : List ℕ) → Handled (Next from.now s.now n body)
+        (memory map.entry.lows.now map.entry.owners.now index.entry.keys.now index.entry.slots.now lens values names.old.lens.now names.old.bytes.now counts.old places.now mail)
         k room.old from.now s.now ack.old result
-        (memory lows.now owners.now keys.now slots.now lens values name_lens.new names.new counts.new places.now mail) room.new ack.new }
+        (memory map.entry.lows.now map.entry.owners.now index.entry.keys.now index.entry.slots.now lens values names.new.lens.now names.new.bytes.now counts.new places.now mail) room.new ack.new }
 {
-    let tested = rooms::roomy(
-        lows, owners, keys, slots, name_lens, names, places, k, from, s, body,
-    );
-    if !tested.room {
+    let Some(place) = rooms::roomy(map, index, names.view(), places, k, from, s, body) else {
         return left(k, Received::Unreceived);
-    }
-    let taken = taking::take(name_lens, names, counts, room, k, from, n, s, hint);
-    match taken {
-        Took::Now(after) => {
-            composing::ack(n, ack);
+    };
+    match taking::take(names, counts, room, k, from, n, s, hint) {
+        Ok(state) => {
+            // it fits: what is lent for an Ack is looked at by `receiving`
+            let _ = composing::ack(n, ack);
             Arrival {
-                state: after,
+                state,
                 outcome: Received::Taken,
-                place: tested.place,
+                place,
             }
         }
-        Took::NoRoom => left(k, Received::Unreceived),
+        Err(NoRoom) => left(k, Received::Unreceived),
     }
 }

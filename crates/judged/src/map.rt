@@ -7,7 +7,7 @@ pub extern "C" fn tagshards_judged_map_start(
     owners: &mut [u64],
     owner: u64,
 ) -> u64 {
-    code::changed(delegation::start(lows, owners, owner))
+    code::counted(delegation::start(lows, owners, owner))
 }
 
 #[unsafe(no_mangle)]
@@ -33,7 +33,7 @@ pub extern "C" fn tagshards_judged_map_set(
 ) -> u64 {
     let low = code::bound(lo_end, lo);
     let high = code::bound(hi_end, hi);
-    code::changed(grants::set(lows, owners, n, low, high, owner))
+    code::counted(grants::set(lows, owners, n, low, high, owner))
 }
 
 #[unsafe(no_mangle)]

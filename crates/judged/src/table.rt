@@ -120,7 +120,7 @@ pub extern "C" fn tagshards_judged_table_pick(
 ) -> u64 {
     let low = code::bound(lo_end, lo);
     let high = code::bound(hi_end, hi);
-    code::picked(ranges::pick(
+    code::counted(ranges::pick(
         keys, slots, lens, values, n, low, high, to_keys, to_ats, to_lens,
     ))
 }

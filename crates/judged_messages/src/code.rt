@@ -1,11 +1,11 @@
 // Bounds from numbers, and the answers of writers as numbers. A refusal is one of the largest numbers, which
 // no length comes near.
 use keys::Bound;
-use message::Written;
+use message::Refused;
 
-const NO_ROOM: u64 = 18446744073709551615;
+const NO_ROOM: u64 = u64::MAX;
 
-const INVALID: u64 = 18446744073709551614;
+const INVALID: u64 = u64::MAX - 1;
 
 pub fn bound(is_end: bool, key: u64) -> Bound {
     if is_end {
@@ -14,10 +14,10 @@ pub fn bound(is_end: bool, key: u64) -> Bound {
     Bound::Key(key)
 }
 
-pub fn written(r: Written) -> u64 {
+pub fn written(r: Result<usize, Refused>) -> u64 {
     match r {
-        Written::Bytes(n) => n as u64,
-        Written::NoRoom => NO_ROOM,
-        Written::Invalid => INVALID,
+        Ok(n) => n as u64,
+        Err(Refused::NoRoom) => NO_ROOM,
+        Err(Refused::Invalid) => INVALID,
     }
 }

@@ -12,18 +12,17 @@
 // What a kind does not have is 0.
 use format::Part;
 use keys::Bound;
-use lists::RowRead;
-use message::{BodyView, Parsed, ValueView};
+use message::{BodyView, Parsed};
 
 const ACK: u64 = 16;
 
 const INVALID: u64 = 17;
 
-pub fn word(p: Parsed, which: u64) -> u64 {
+pub fn word(p: Option<Parsed>, which: u64) -> u64 {
     match p {
-        Parsed::Message(n, to, b) => in_message(n, to, b, which),
-        Parsed::Ack(n) => bare(ACK, n, which),
-        Parsed::Invalid => bare(INVALID, 0, which),
+        Some(Parsed::Message(n, to, b)) => in_message(n, to, b, which),
+        Some(Parsed::Ack(n)) => bare(ACK, n, which),
+        None => bare(INVALID, 0, which),
     }
 }
 
@@ -55,10 +54,10 @@ fn in_body(b: BodyView, which: u64) -> u64 {
     }
 }
 
-fn valued(kind: u64, key: u64, v: ValueView, which: u64) -> u64 {
+fn valued(kind: u64, key: u64, v: Option<Part>, which: u64) -> u64 {
     match v {
-        ValueView::None => keyed(kind, key, 0, 0, 0, which),
-        ValueView::At(p) => keyed(kind, key, 1, p.at, p.len, which),
+        None => keyed(kind, key, 0, 0, 0, which),
+        Some(p) => keyed(kind, key, 1, p.at, p.len, which),
     }
 }
 
@@ -101,10 +100,10 @@ fn key_of(b: Bound) -> u64 {
 }
 
 // An entry of a list as four numbers: is it there, its key, where its value stands, and the value's length.
-pub fn row_word(r: RowRead, which: u64) -> u64 {
+pub fn row_word(r: Option<(u64, Part)>, which: u64) -> u64 {
     match r {
-        RowRead::Is(key, p) => in_row(key, p, which),
-        RowRead::Missing => 0,
+        Some((key, p)) => in_row(key, p, which),
+        None => 0,
     }
 }
 

@@ -1,4 +1,5 @@
-// The writers, one a kind: the length of what was written, or a refusal.
+// The writers, one a kind: the length of what was written, or a refusal. A value comes as two arguments, as
+// C calls them: is it there, and its bytes.
 use super::code;
 
 #[unsafe(no_mangle)]
@@ -20,7 +21,7 @@ pub extern "C" fn tagshards_judged_set(
     v: &[u8],
     d: &mut [u8],
 ) -> u64 {
-    code::written(answering::set(n, to, key, some, v, d))
+    code::written(answering::set(n, to, key, some.then_some(v), d))
 }
 
 #[unsafe(no_mangle)]
@@ -32,7 +33,7 @@ pub extern "C" fn tagshards_judged_reply(
     v: &[u8],
     d: &mut [u8],
 ) -> u64 {
-    code::written(answering::reply(n, to, key, some, v, d))
+    code::written(answering::reply(n, to, key, some.then_some(v), d))
 }
 
 #[unsafe(no_mangle)]

@@ -4,8 +4,8 @@
 use Rattle.std.specs.Prelude.{ℕ, Bool, true, false, not, cond, ◌&&◌, ltb}
 use Rattle.keys.specs.declared.Bound.{Bound}
 use Rattle.keys.specs.declared.Bound.TheVariants.{Key, End}
-use Rattle.keys.specs.declared.Order.{Order}
-use Rattle.keys.specs.declared.Order.TheVariants.{Less, Equal, Greater}
+use Rattle.std.specs.declared.cmp.Ordering.{Ordering}
+use Rattle.std.specs.declared.cmp.Ordering.TheVariants.{Less, Equal, Greater}
 
 -- a lies below b: keys by their numbers, end above every key
 abbrev pub below : Bound → Bound → Bool
@@ -18,5 +18,5 @@ abbrev pub holds : Bound → Bound → ℕ → Bool
 holds lo hi k = not (below (Key k) lo) && below (Key k) hi
 
 -- where a lies, seen from b
-abbrev pub order : Bound → Bound → Order
+abbrev pub order : Bound → Bound → Ordering
 order a b = cond (below a b) Less (cond (below b a) Greater Equal)

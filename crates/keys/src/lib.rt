@@ -8,43 +8,27 @@
 ghost use Rattle.std.specs.Prelude.{◌≡◌, not};
 ghost use Rattle.keys.specs.Bound.{below, holds, order};
 
-#[derive(Clone, Copy)]
+use std::cmp::Ordering;
+
+// Bounds are compared as they are listed: keys by their numbers, and end above every key.
+#[derive(Clone, Copy, Debug, PartialEq, Eq, PartialOrd, Ord)]
 pub enum Bound {
     Key(u64),
     End,
-}
-
-#[derive(Clone, Copy)]
-pub enum Order {
-    Less,
-    Equal,
-    Greater,
 }
 
 // Does a lie below b?
 pub fn is_below(a: Bound, b: Bound) -> bool
     ensures { result ≡ below a b }
 {
-    match a {
-        Bound::Key(x) => match b {
-            Bound::Key(y) => x < y,
-            Bound::End => true,
-        },
-        Bound::End => false,
-    }
+    a < b
 }
 
 // Where a lies, seen from b.
-pub fn compare(a: Bound, b: Bound) -> Order
+pub fn compare(a: Bound, b: Bound) -> Ordering
     ensures { result ≡ order a b }
 {
-    if is_below(a, b) {
-        return Order::Less;
-    }
-    if is_below(b, a) {
-        return Order::Greater;
-    }
-    Order::Equal
+    a.cmp(&b)
 }
 
 // Does the range [lo, hi) hold no key?
@@ -58,8 +42,6 @@ pub fn is_empty(lo: Bound, hi: Bound) -> bool
 pub fn contains(lo: Bound, hi: Bound, key: u64) -> bool
     ensures { result ≡ holds lo hi key }
 {
-    if is_below(Bound::Key(key), lo) {
-        return false;
-    }
-    is_below(Bound::Key(key), hi)
+    let bound = Bound::Key(key);
+    !is_below(bound, lo) && is_below(bound, hi)
 }

@@ -2,7 +2,7 @@
 // writer begins only once it knows that the whole message fits. `options` writes these fields.
 #![tactic(auto)]
 
-ghost use Rattle.std.specs.Prelude.{◌≡◌, ◌+◌, ◌≤◌, length};
+ghost use Rattle.std.specs.Prelude.{◌≡◌, ◌+◌, ◌≤◌, [], length, unwrap_or, option_copied};
 ghost use Rattle.format.specs.Number.{width};
 ghost use Rattle.format.specs.Format.{number, maybe, encode};
 ghost use Rattle.message.specs.Table.{value, key_of};
@@ -22,11 +22,11 @@ pub fn bound_length(b: Bound) -> usize
 }
 
 // The bytes that a value takes that is there, or none.
-pub fn optional_length(some: bool, v: &[u8]) -> usize
-    ensures { (result ≡ length (encode (maybe value) (given some v.now))) × (result ≤ 1 + width + length v.now) }
+pub fn optional_length(v: Option<&[u8]>) -> usize
+    ensures { (result ≡ length (encode (maybe value) (given v.entry))) × (result ≤ 1 + width + length (unwrap_or (option_copied v.entry) [])) }
 {
-    if some {
-        return 1 + WIDTH + v.len();
+    match v {
+        Some(bytes) => 1 + WIDTH + bytes.len(),
+        None => 1,
     }
-    1
 }

@@ -30,3 +30,7 @@ pub const TRANSFERS_LIMIT: u64 = 9223372036854775807;
 
 // Retransmission acts on every so many of its turns: document 01, section 5.
 pub const RESEND_EVERY: u64 = 100000000;
+
+// What was lent is too short for what it is to hold.
+#[derive(Clone, Copy, Debug, PartialEq, Eq)]
+pub struct NoRoom;

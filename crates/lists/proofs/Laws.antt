@@ -2,6 +2,7 @@
 -- Assumes nothing.
 use mathlib.Core.Path.{◌≡◌, refl, sym, ap, ◌∙◌, subst}
 use mathlib.Core.List.{List, [], ◌∷◌}
+use Rattle.std.specs.Prelude.{Option, Some, None}
 use Prim.Native.Nat.{ℕ, suc, ◌+◌, ◌-◌, ◌<◌}
 use native.Mathlib.Omega.{arith}
 use lib.ListN.{length, drop}
@@ -12,19 +13,17 @@ use Rattle.format.specs.declared.Part.{Part}
 use Rattle.format.proofs.Reading.{only}
 use Rattle.format.proofs.Listing.{rest_head}
 use Rattle.lists.specs.Answers.{ReadRow}
-use Rattle.lists.specs.declared.RowRead.{RowRead}
-use Rattle.lists.specs.declared.RowRead.TheVariants.{Is, Missing}
 
 -- Going through a list that was read never refuses: as long as entries are left, the next one is there, and behind it is the rest
-pub goes_on : (l : List Entry) {s : List ℕ} {at n low next : ℕ} → Rest s at n low l next → 0 < n → (r : RowRead) → ReadRow s at r
-    → (k : ℕ) × (p : Part) × (r ≡ Is k p) × (l' : List Entry) × (l ≡ record { key = k; value = part s p.at p.len } ∷ l')
+pub goes_on : (l : List Entry) {s : List ℕ} {at n low next : ℕ} → Rest s at n low l next → 0 < n → (r : Option (ℕ × Part)) → ReadRow s at r
+    → (k : ℕ) × (p : Part) × (r ≡ Some (k, p)) × (l' : List Entry) × (l ≡ record { key = k; value = part s p.at p.len } ∷ l')
     × Rest s (p.at + p.len) (n - 1) (suc k) l' next
 goes_on [] R some r A = absurd (omega (arith, R.count))
-goes_on (e ∷ l) {s} {at} {n} {low} {next} R some Missing A =
+goes_on (e ∷ l) {s} {at} {n} {low} {next} R some None A =
     let one : n ≡ suc (n - 1) = omega arith in
     let u = rest_head (subst (λ (x : ℕ). Rest s at x low (e ∷ l) next) one R) in
     absurd (A.is.no (e.key, e.value) u.1.good (drop u.0 s) u.1.is)
-goes_on (e ∷ l) {s} {at} {n} {low} {next} R some (Is k p) A =
+goes_on (e ∷ l) {s} {at} {n} {low} {next} R some (Some (k, p)) A =
     let one : n ≡ suc (n - 1) = omega arith in
     let u = rest_head (subst (λ (x : ℕ). Rest s at x low (e ∷ l) next) one R) in
     let st : Stands row s at (k, part s p.at p.len) (p.at + p.len) = A.is.1 in

@@ -4,89 +4,55 @@
 ghost use Rattle.std.specs.Prelude.{◌≡◌, true, false, ◌<◌, ◌≤◌, length};
 ghost use Rattle.lists.specs.Answers.{ReadRow, ReadRows, ReadList, lowest};
 
-use format::{NumberRead, Part, TextRead, WIDTH};
+use format::{Part, WIDTH};
 
-// An entry: its key, and where its value stands.
-#[derive(Clone, Copy)]
-pub enum RowRead {
-    Is(u64, Part),
-    Missing,
-}
-
-// A list: how many entries it has, and the place behind it. The first entry stands behind the count.
-#[derive(Clone, Copy)]
-pub enum ListRead {
-    Is(u64, usize),
-    Missing,
-}
-
-// The entries of a list: the place behind them.
-#[derive(Clone, Copy)]
-enum RowsRead {
-    Upto(usize),
-    Missing,
-}
-
-// The list at a place, if it takes at most so many bytes.
-pub fn list(s: &[u8], at: usize, limit: usize) -> ListRead
+// The list at a place, if it takes at most so many bytes: how many entries it has, and the place behind it. The
+// first entry stands behind the count.
+pub fn list(s: &[u8], at: usize, limit: usize) -> Option<(u64, usize)>
     ensures { ReadList limit s.now at result }
 {
-    let NumberRead::Is(count) = format::number(s, at) else {
-        return ListRead::Missing;
-    };
-    let RowsRead::Upto(next) = rows(s, at + WIDTH, count) else {
-        return ListRead::Missing;
-    };
+    let count = format::number(s, at)?;
+    let next = rows(s, at + WIDTH, count)?;
     if limit < next - at {
-        return ListRead::Missing;
+        return None;
     }
-    ListRead::Is(count, next)
+    Some((count, next))
 }
 
-// So many entries. Each takes 16 bytes at least, so a count that lies costs no more turns than the bytes
-// have room for entries.
-fn rows(s: &[u8], from: usize, count: u64) -> RowsRead
+// So many entries: the place behind them. Each takes 16 bytes at least, so a count that lies costs no more turns than
+// the bytes have room for entries.
+fn rows(s: &[u8], from: usize, count: u64) -> Option<usize>
     requires { from ≤ length s.now }
     ensures { ReadRows s.now from count result }
 {
-    let mut left = count;
     let mut at = from;
-    let mut first = true;
-    let mut last: u64 = 0;
-    while 0 < left {
-        let RowRead::Is(key, part) = row(s, at) else {
-            return RowsRead::Missing;
-        };
-        if !rises(first, last, key) {
-            return RowsRead::Missing;
+    let mut last: Option<u64> = None;
+    for _i in 0..count {
+        let (key, part) = row(s, at)?;
+        if !rises(last, key) {
+            return None;
         }
         at = part.at + part.len;
-        first = false;
-        last = key;
-        left -= 1;
+        last = Some(key);
     }
-    RowsRead::Upto(at)
+    Some(at)
 }
 
-// The entry at a place.
-pub fn row(s: &[u8], at: usize) -> RowRead
+// The entry at a place: its key, and where its value stands.
+pub fn row(s: &[u8], at: usize) -> Option<(u64, Part)>
     ensures { ReadRow s.now at result }
 {
-    let NumberRead::Is(key) = format::number(s, at) else {
-        return RowRead::Missing;
-    };
-    let TextRead::Is(part) = format::text(s, at + WIDTH) else {
-        return RowRead::Missing;
-    };
-    RowRead::Is(key, part)
+    let key = format::number(s, at)?;
+    let part = format::text(s, at + WIDTH)?;
+    Some((key, part))
 }
 
 // May the key come next? The first may be any; a later one must be above the last.
-fn rises(first: bool, last: u64, key: u64) -> bool
-    ensures { (result ≡ true → lowest first last ≤ key) × (result ≡ false → key < lowest first last) }
+fn rises(last: Option<u64>, key: u64) -> bool
+    ensures { (result ≡ true → lowest last ≤ key) × (result ≡ false → key < lowest last) }
 {
-    if first {
-        return true;
+    match last {
+        None => true,
+        Some(last) => last < key,
     }
-    last < key
 }

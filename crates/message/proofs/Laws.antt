@@ -19,8 +19,8 @@ use Rattle.message.specs.Table.{datagram, key_of, body_value, datagram_value, bo
 use Rattle.message.specs.View.{bytes_of, body_of}
 use Rattle.message.specs.Answers.{AfterParse, AfterWrite}
 use Rattle.message.specs.declared.Parsed.{Parsed}
-use Rattle.message.specs.declared.Parsed.TheVariants.{Message, Ack, Invalid}
-use Rattle.message.specs.declared.Written.TheVariants.{Bytes}
+use Rattle.message.specs.declared.Parsed.TheVariants.{Message, Ack}
+use Rattle.std.specs.Prelude.{Option, Some, None, Ok}
 
 -- ---- a message is told by the value that is written
 
@@ -54,20 +54,20 @@ pub no_message_begins : (m m' : Datagram) → Valid m → Valid m' → (rest : L
 no_message_begins m m' g g' rest e =
     let u = no_prefix datagram (datagram_value m) (datagram_value m') g g' rest e in (told m m' u.0, u.1)
 
--- the message that an answer describes; for Invalid it is none
-abbrev pub Describes : List ℕ → Parsed → Datagram → Type 0
-Describes s (Message n a b) m = message n (bytes_of s a) (body_of s b) ≡ m
-Describes s (Ack n) m = ack n ≡ m
-Describes s Invalid m = ⊥
+-- the message that an answer describes; for None it is none
+abbrev pub Describes : List ℕ → Option Parsed → Datagram → Type 0
+Describes s (Some (Message n a b)) m = message n (bytes_of s a) (body_of s b) ≡ m
+Describes s (Some (Ack n)) m = ack n ≡ m
+Describes s None m = ⊥
 
 -- what was written is read back as itself: whatever `parse` answers on the bytes of a message describes that message
-pub read_back : (m : Datagram) → Valid m → (r : Parsed) → AfterParse (written m) r → Describes (written m) r m
-read_back m g (Message n a b) A = one_message _ m A.is.0 g A.is.1
-read_back m g (Ack n) A = one_message (ack n) m A.is.0 g A.is.1
-read_back m g Invalid A = A.is m g refl
+pub read_back : (m : Datagram) → Valid m → (r : Option Parsed) → AfterParse (written m) r → Describes (written m) r m
+read_back m g (Some (Message n a b)) A = one_message _ m A.is.0 g A.is.1
+read_back m g (Some (Ack n)) A = one_message (ack n) m A.is.0 g A.is.1
+read_back m g None A = A.is m g refl
 
 -- .. also from the bytes that a writer left: reading as many of them as it said gives the message
-pub written_back : (m : Datagram) (d : List ℕ) (n : ℕ) (d' : List ℕ) → AfterWrite m d (Bytes n) d' → (r : Parsed) → AfterParse (take n d') r
+pub written_back : (m : Datagram) (d : List ℕ) (n : ℕ) (d' : List ℕ) → AfterWrite m d (Ok n) d' → (r : Option Parsed) → AfterParse (take n d') r
     → Describes (take n d') r m
 written_back m d n d' W r A =
     let e : take n d' ≡ written m = ap₂ take W.is.1 W.is.2 ∙ take_at (written m) (drop (0 + length (written m)) d) (length (written m)) refl in

@@ -1,13 +1,11 @@
 -- What a view says: it names the kind, the numbers, and where in the datagram's bytes each string and list stands.
 -- Assumes nothing.
-use Rattle.std.specs.Prelude.{List, ℕ, ◌+◌, ◌≤◌, length}
-use Rattle.std.proofs.Math.Option.{Option, none, some}
+use Rattle.std.specs.Prelude.{List, ℕ, ◌+◌, ◌≤◌, length, Option, Some, None}
+use Rattle.std.proofs.Math.Option.{Option as Maybe, none, some}
 use Rattle.memory.specs.Bytes.{part}
 use Rattle.format.specs.declared.Part.{Part}
 use Rattle.format.specs.Place.{listed, Rest}
 use Rattle.message.specs.Message.{Body, get, set, reply, redirect, shard, delegate}
-use Rattle.message.specs.declared.ValueView.{ValueView}
-use Rattle.message.specs.declared.ValueView.TheVariants.{None, At}
 use Rattle.message.specs.declared.BodyView.{BodyView}
 use Rattle.message.specs.declared.BodyView.TheVariants.{Get, Set, Reply, Redirect, Shard, Delegate}
 
@@ -15,9 +13,10 @@ use Rattle.message.specs.declared.BodyView.TheVariants.{Get, Set, Reply, Redirec
 abbrev pub bytes_of : List ℕ → Part → List ℕ
 bytes_of s p = part s p.at p.len
 
-abbrev pub value_of : List ℕ → ValueView → Option (List ℕ)
+-- the value that code tells by its place, as a message has it
+abbrev pub value_of : List ℕ → Option Part → Maybe (List ℕ)
 value_of s None = none
-value_of s (At p) = some (bytes_of s p)
+value_of s (Some p) = some (bytes_of s p)
 
 -- the body that a view of the bytes s describes
 abbrev pub body_of : List ℕ → BodyView → Body
@@ -33,9 +32,9 @@ body_of s (Delegate lo hi l) = delegate lo hi (listed s l.at l.count)
 abbrev pub PartIn : List ℕ → Part → Type 0
 PartIn s p = p.at + p.len ≤ length s
 
-abbrev pub ValueIn : List ℕ → ValueView → Type 0
+abbrev pub ValueIn : List ℕ → Option Part → Type 0
 ValueIn s None = Unit
-ValueIn s (At p) = PartIn s p
+ValueIn s (Some p) = PartIn s p
 
 -- the list's entries stand one after the other up to the end of the bytes
 abbrev pub BodyIn : List ℕ → BodyView → Type 0

@@ -7,13 +7,6 @@
 use format::Part;
 use keys::Bound;
 
-// A value: none, or where its bytes stand.
-#[derive(Clone, Copy)]
-pub enum ValueView {
-    None,
-    At(Part),
-}
-
 // A list of entries: where the first of them stands, and how many there are.
 #[derive(Clone, Copy)]
 pub struct ListView {
@@ -21,11 +14,12 @@ pub struct ListView {
     pub count: u64,
 }
 
+// A body. The value of a Set or a Reply is where its bytes stand, if there is one.
 #[derive(Clone, Copy)]
 pub enum BodyView {
     Get(u64),
-    Set(u64, ValueView),
-    Reply(u64, ValueView),
+    Set(u64, Option<Part>),
+    Reply(u64, Option<Part>),
     Redirect(u64, Part),
     Shard(Bound, Bound, Part),
     Delegate(Bound, Bound, ListView),
@@ -36,14 +30,12 @@ pub enum BodyView {
 pub enum Parsed {
     Message(u64, Part, BodyView),
     Ack(u64),
-    Invalid,
 }
 
-// What writing a message answers: how many bytes it takes, that they do not fit what is lent, or that
-// there is no such message, because an address or a list is too long or a list's keys do not rise.
-#[derive(Clone, Copy)]
-pub enum Written {
-    Bytes(usize),
+// Why a message is not written: it does not fit what is lent, or there is no such message, because an
+// address or a list is too long or a list's keys do not rise. What is written is told by its length.
+#[derive(Clone, Copy, Debug, PartialEq, Eq)]
+pub enum Refused {
     NoRoom,
     Invalid,
 }

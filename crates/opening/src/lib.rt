@@ -2,7 +2,6 @@
 // it. Nothing is asked of a caller.
 #![tactic(auto)]
 
-ghost use Rattle.std.specs.Prelude.{◌≡◌, get_or, ℕ};
 ghost use Rattle.opening.specs.Answers.{AfterStart};
 
 use delivery::WORDS;
@@ -17,18 +16,7 @@ pub fn start(counts: &mut [u64], places: &mut [u64], mail: &[u8], size: usize) -
     if mail.len() / size < places.len() / WORDS {
         return false;
     }
-    clear(counts);
-    clear(places);
+    counts.fill(0);
+    places.fill(0);
     true
-}
-
-// Zero everywhere.
-fn clear(column: &mut [u64])
-    ensures { (i : ℕ) → get_or column.new i 0 ≡ 0 }
-{
-    let mut i: usize = 0;
-    while i < column.len() {
-        column[i] = 0;
-        i += 1;
-    }
 }

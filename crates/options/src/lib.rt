@@ -3,7 +3,7 @@
 // bytes they take is told by `lengths`.
 #![tactic(auto)]
 
-ghost use Rattle.std.specs.Prelude.{true};
+ghost use Rattle.std.proofs.Math.Option.{some};
 ghost use Rattle.memory.specs.Bytes.{Copied};
 ghost use Rattle.keys.specs.declared.Bound.TheVariants.{Key};
 ghost use Rattle.format.specs.Format.{number, maybe, encode, Good};
@@ -26,10 +26,7 @@ pub fn bound(b: Bound, d: &mut [u8], at: usize) -> bool
 fn key(k: u64, d: &mut [u8], at: usize) -> bool
     ensures { Copied (encode (maybe number) (key_of (Key k))) d.old at result d.new }
 {
-    if d.len() < at {
-        return false;
-    }
-    if d.len() - at < 1 + WIDTH {
+    if d.len() < at || d.len() - at < 1 + WIDTH {
         return false;
     }
     writing::byte(1, d, at);
@@ -37,25 +34,19 @@ fn key(k: u64, d: &mut [u8], at: usize) -> bool
 }
 
 // A value that is there, or none.
-pub fn optional(some: bool, v: &[u8], d: &mut [u8], at: usize) -> bool
-    ensures { Copied (encode (maybe value) (given some v.now)) d.old at result d.new }
+pub fn optional(v: Option<&[u8]>, d: &mut [u8], at: usize) -> bool
+    ensures { Copied (encode (maybe value) (given v.entry)) d.old at result d.new }
 {
-    if some {
-        return there(v, d, at);
+    match v {
+        Some(bytes) => there(bytes, d, at),
+        None => writing::byte(0, d, at),
     }
-    writing::byte(0, d, at)
 }
 
 fn there(v: &[u8], d: &mut [u8], at: usize) -> bool
-    ensures { Copied (encode (maybe value) (given true v.now)) d.old at result d.new }
+    ensures { Copied (encode (maybe value) (some v.now)) d.old at result d.new }
 {
-    if d.len() < at {
-        return false;
-    }
-    if d.len() - at < 1 + WIDTH {
-        return false;
-    }
-    if d.len() - at - (1 + WIDTH) < v.len() {
+    if d.len() < at || d.len() - at < 1 + WIDTH || d.len() - at - (1 + WIDTH) < v.len() {
         return false;
     }
     writing::byte(1, d, at);

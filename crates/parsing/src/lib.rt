@@ -6,54 +6,41 @@
 ghost use Rattle.std.specs.Prelude.{◌≡◌, ◌<◌, length, get_or};
 ghost use Rattle.message.specs.Answers.{AfterParse};
 
-use bodies::BodyRead;
-use format::{NumberRead, TextRead, WIDTH};
+use format::WIDTH;
 use limits::BYTES_MAX;
 use message::Parsed;
 
 // The message that the datagram is.
-pub fn parse(s: &[u8]) -> Parsed
+pub fn parse(s: &[u8]) -> Option<Parsed>
     ensures { AfterParse s.now result }
 {
-    if s.len() == 0 {
-        return Parsed::Invalid;
-    }
-    let t = s[0];
-    match t {
+    match *s.first()? {
         0 => message(s),
         1 => ack(s),
-        _ => Parsed::Invalid,
+        _ => None,
     }
 }
 
-fn message(s: &[u8]) -> Parsed
+fn message(s: &[u8]) -> Option<Parsed>
     requires { (0 < length s.now) × (get_or s.now 0 0 ≡ 0) }
     ensures { AfterParse s.now result }
 {
-    let NumberRead::Is(n) = format::number(s, 1) else {
-        return Parsed::Invalid;
-    };
-    let TextRead::Is(address) = format::short_text(s, 1 + WIDTH, BYTES_MAX) else {
-        return Parsed::Invalid;
-    };
-    let BodyRead::Is(b, next) = bodies::read(s, address.at + address.len) else {
-        return Parsed::Invalid;
-    };
+    let n = format::number(s, 1)?;
+    let address = format::short_text(s, 1 + WIDTH, BYTES_MAX)?;
+    let (b, next) = bodies::read(s, address.at + address.len)?;
     if next < s.len() {
-        return Parsed::Invalid;
+        return None;
     }
-    Parsed::Message(n, address, b)
+    Some(Parsed::Message(n, address, b))
 }
 
-fn ack(s: &[u8]) -> Parsed
+fn ack(s: &[u8]) -> Option<Parsed>
     requires { (0 < length s.now) × (get_or s.now 0 0 ≡ 1) }
     ensures { AfterParse s.now result }
 {
-    let NumberRead::Is(n) = format::number(s, 1) else {
-        return Parsed::Invalid;
-    };
+    let n = format::number(s, 1)?;
     if 1 + WIDTH < s.len() {
-        return Parsed::Invalid;
+        return None;
     }
-    Parsed::Ack(n)
+    Some(Parsed::Ack(n))
 }

@@ -7,56 +7,47 @@
 ghost use Rattle.std.specs.Prelude.{◌≡◌, min, ◌*◌, ◌/◌, ◌≤◌, ◌<◌};
 ghost use Rattle.peers.specs.Names.{AfterName, AfterAdd};
 
-// The number of an address.
-#[derive(Clone, Copy)]
-pub enum Peer {
-    Is(usize),
-    Unknown,
-}
-
-// The number that an address got, or why it got none.
-#[derive(Clone, Copy)]
-pub enum Added {
-    At(usize),
+// Why an address gets no number.
+#[derive(Clone, Copy, Debug, PartialEq, Eq)]
+pub enum Refused {
     Full,
     TooLong,
 }
 
-// Where a peer's address stands in the names, from one byte up to another, or that there is no such peer.
-#[derive(Clone, Copy)]
-pub enum Where {
-    At(usize, usize),
-    Missing,
-}
-
-// Where is the peer's address?
-pub fn name(lens: &[u64], names: &[u8], width: usize, peer: usize) -> Where
+// Where does the peer's address stand in the names, from one byte up to another? None: there is no such peer.
+pub fn name(lens: &[u64], names: &[u8], width: usize, peer: usize) -> Option<(usize, usize)>
     ensures { AfterName lens.now names.now width peer result }
 {
     if room(lens.len(), names.len(), width) <= peer {
-        return Where::Missing;
+        return None;
     }
     let len = lens[peer] as usize;
     if width < len {
-        return Where::Missing;
+        return None;
     }
     let from = peer * width;
-    Where::At(from, from + len)
+    Some((from, from + len))
 }
 
 // The next number for an address that no peer has.
-pub fn add(lens: &mut [u64], names: &mut [u8], width: usize, n: usize, address: &[u8]) -> Added
+pub fn add(
+    lens: &mut [u64],
+    names: &mut [u8],
+    width: usize,
+    n: usize,
+    address: &[u8],
+) -> Result<usize, Refused>
     ensures { AfterAdd lens.old names.old width n address.now result lens.new names.new }
 {
     if width < address.len() {
-        return Added::TooLong;
+        return Err(Refused::TooLong);
     }
     if room(lens.len(), names.len(), width) <= n {
-        return Added::Full;
+        return Err(Refused::Full);
     }
     lens[n] = address.len() as u64;
     memory::copy(address, names, n * width);
-    Added::At(n)
+    Ok(n)
 }
 
 // How many addresses so many lengths and bytes have room for.
@@ -73,8 +64,5 @@ pub fn room(lens: usize, names: usize, width: usize) -> usize
 pub fn within(a: usize, b: usize) -> usize
     ensures { (result ≡ min a b) × (result ≤ a) × (result ≤ b) }
 {
-    if b < a {
-        return b;
-    }
-    a
+    a.min(b)
 }

@@ -10,6 +10,7 @@ use native.Mathlib.Omega.{arith}
 use lib.Dec.{eqb}
 use lib.ListN.{length, get_or}
 use borrow.Author.Tests.{ltb-true, ltb-false, eqb-true, eqb-false, not-true, not-false}
+use mir.Val.{bool_byte}
 use Rattle.keys.specs.declared.Bound.{Bound}
 use Rattle.keys.specs.declared.Bound.TheVariants.{Key, End}
 use Rattle.keys.specs.Bound.{below}
@@ -17,7 +18,8 @@ use Rattle.keys.proofs.Laws.{Under, below_trans, holds_true, holds_false}
 use Rattle.columns.proofs.Cases.{lt_or_ge}
 use Rattle.plans.specs.declared.Plan.{Plan}
 use Rattle.delegation.specs.Map.{Keeps, updated}
-use Rattle.plans.specs.Plan.{Before, Through, EndsWith, turned, key_of, count, Edited, Planned}
+use Rattle.searches.specs.Search.{Before}
+use Rattle.plans.specs.Plan.{Through, EndsWith, turned, key_of, count, Edited, Planned}
 use Rattle.plans.proofs.Part.{Part, Any, at, from_keeps, to_keeps, extend, widen, recount}
 use Rattle.delegation.proofs.Laws.{updated_in, updated_out}
 
@@ -166,13 +168,18 @@ finish low own low' own' f g n i j a v w l h End K jn ne upon past outside B hl 
 
 -- ---- the plan
 
+-- a flag as a number is how many bounds it puts
+pub counted : (b : Bool) → bool_byte b ≡ count b
+counted true = refl
+counted false = refl
+
 -- a plan made of what the searches answer is right
 pub plan_right : (lows owners : List ℕ) (n : ℕ) (lo hi : Bound) (v : ℕ) (p : Plan) (j : Bool) → n ≤ length lows → Through lows n hi p.last
     → Before lows p.last lo p.first → EndsWith owners p.first v j → p.low ≡ not j
     → (0 < p.last → p.after ≡ get_or owners (p.last - 1) 0) → p.high ≡ turned hi p.after v
     → p.bounds ≡ p.first + count p.low + count p.high + (n - p.last) → Planned lows owners n lo hi v p
 plan_right lows owners n lo hi v p j nl th be en el aft eh eb = record {
-  ordered = be.within;
+  ordered = be.least;
   within = th.within;
   bounds = eb;
   keeps = λ f K ne. keeps lo hi f K ne th be eh;
@@ -194,7 +201,7 @@ plan_right lows owners n lo hi v p j nl th be en el aft eh eb = record {
         (lt_or_ge x p.last) in
         let B =
         begin (at lows) (at owners) (at lows') (at owners') f (updated (Key a) hi v f) n p.first a v (Under hi) (from_keeps K)
-        (omega (arith, be.within))
+        (omega (arith, be.least))
         (λ x s. ltb-true (at lows x) a (be.low jl r x s))
         above
         (λ k s. updated_out (Key a) hi v f k (holds_false (Key a) hi k (λ q u. omega arith)))

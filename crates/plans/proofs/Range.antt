@@ -14,7 +14,8 @@ use Rattle.keys.specs.Bound.{below, holds}
 use Rattle.keys.proofs.Laws.{Under, below_le, le_below, holds_true, holds_from, holds_lo}
 use Rattle.columns.proofs.Cases.{lt_or_ge, eq_or_ne}
 use Rattle.delegation.specs.Map.{Keeps}
-use Rattle.plans.specs.Plan.{Before, Through}
+use Rattle.searches.specs.Search.{Before}
+use Rattle.plans.specs.Plan.{Through}
 
 under_below : (hi : Bound) (k : ℕ) → Under hi k → below (Key k) hi ≡ true
 under_below (Key b) k u = lt-ltb k b u
@@ -75,7 +76,7 @@ module _ (lows owners : List ℕ) (n x v a b : ℕ) (hi : Bound) (f : ℕ → �
           let p : 0 < a = lo_some in
           let e : suc (a - 1) ≡ a = omega arith in
           let ab : a < b = inside h in
-          let an : a < n = omega (arith, be.within) in
+          let an : a < n = omega (arith, be.least) in
           let q : x < get_or lows a 0 = ltb-true x (get_or lows a 0) (th.high K.fits_lows K.rising a (omega arith) an) in
           let own_a : f (get_or lows a 0) ≡ get_or owners a 0 = K.means a (get_or lows a 0) an (omega arith) (λ s. K.rising a (suc a) (omega arith) s) in
           let turn : get_or owners (a - 1) 0 ≡ get_or owners a 0 → ⊥ = rw e at (K.joined (a - 1) (rw e an)) in (

@@ -2,30 +2,13 @@
 -- Assumes nothing.
 use mathlib.Core.Path.{refl}
 use mathlib.Core.List.{List}
-use Prim.Native.Nat.{ℕ, ◌-◌, ◌^◌, ◌<◌}
+use Prim.Native.Nat.{ℕ, ◌^◌, ◌<◌}
 use native.Mathlib.Omega.{arith}
 use lib.ListN.{get_or}
 use borrow.Author.Tests.{lt-ltb, le-ltb}
 use Rattle.keys.specs.declared.Bound.TheVariants.{Key, End}
 use Rattle.columns.specs.Column.{Upto}
-use Rattle.plans.specs.Plan.{Before, Through}
-
-pub before_zero : (lows : List ℕ) (n : ℕ) → Before lows n (Key 0) 0
-before_zero lows n = record {
-  within = omega arith;
-  low = λ l r i h. absurd (omega arith);
-  high = λ l r i h q. le-ltb (get_or lows i 0) 0 (omega arith);
-}
-
-pub before_key : {lows : List ℕ} {n r : ℕ} (k : ℕ) → 0 < k → Upto lows n (k - 1) r → Before lows n (Key k) r
-before_key {lows} k p u = record {
-  within = u.within;
-  low = λ l r i h. lt-ltb (get_or lows i 0) k (omega (arith, (u.splits l r).low i h));
-  high = λ l r i h q. le-ltb (get_or lows i 0) k (omega (arith, (u.splits l r).high i h q));
-}
-
-pub before_end : (lows : List ℕ) (n : ℕ) → Before lows n End n
-before_end lows n = record { within = omega arith; low = λ l r i h. refl; high = λ l r i h q. absurd (omega arith) }
+use Rattle.plans.specs.Plan.{Through}
 
 pub through_key : {lows : List ℕ} {n r : ℕ} (k : ℕ) → k < 2 ^ 64 → Upto lows n k r → Through lows n (Key k) r
 through_key {lows} k s u = record {

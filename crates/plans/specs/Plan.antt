@@ -15,12 +15,6 @@ abbrev pub key_of : Bound → ℕ
 key_of (Key k) = k
 key_of End = 0
 
--- r of the first n bounds lie below b, if they rise
-pub record Before (lows : List ℕ) (n : ℕ) (b : Bound) (r : ℕ) : Type 0 where
-  pub within : r ≤ n
-  pub low : n ≤ length lows → Rising lows n → (i : ℕ) → i < r → below (Key (get_or lows i 0)) b ≡ true
-  pub high : n ≤ length lows → Rising lows n → (i : ℕ) → r ≤ i → i < n → below (Key (get_or lows i 0)) b ≡ false
-
 -- r of the first n bounds lie at b or below it, if they rise. A bound that code is given has a key of 64 bits
 pub record Through (lows : List ℕ) (n : ℕ) (b : Bound) (r : ℕ) : Type 0 where
   pub small : key_of b < numbers

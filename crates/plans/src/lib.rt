@@ -5,12 +5,13 @@
 
 ghost use Rattle.std.specs.Prelude.{◌≡◌, ◌-◌, ◌<◌, ◌≤◌, length, get_or};
 ghost use Rattle.delegation.specs.Map.{Whole};
-ghost use Rattle.plans.specs.Plan.{Before, Through, EndsWith, Planned, turned, count};
+ghost use Rattle.plans.specs.Plan.{Through, EndsWith, Planned, turned};
 
 use keys::Bound;
 
 // What giving a range away does with the bounds: those from `first` up to `last` go, and in their
-// place come one at lo, one at hi with the owner `after`, both, or neither.
+// place come one at lo, one at hi with the owner `after`, both, or neither. The two flags are for both columns, whose new
+// values differ, so neither is an Option of a value.
 #[derive(Clone, Copy)]
 pub struct Plan {
     pub first: usize,
@@ -39,11 +40,11 @@ pub fn planned(lows: &[u64], owners: &[u64], n: usize, lo: Bound, hi: Bound, own
         };
     }
     let last = through(lows, n, hi);
-    let first = before(lows, last, lo);
+    let first = searches::before(lows, last, lo);
     let joined = ends_with(owners, first, owner);
     let after = owner_of(owners, last);
     let high = turns(hi, after, owner);
-    let bounds = first + one_if(!joined) + one_if(high) + (n - last);
+    let bounds = first + usize::from(!joined) + usize::from(high) + (n - last);
     Plan {
         first,
         last,
@@ -66,26 +67,11 @@ pub fn whole(lows: &[u64], owners: &[u64], n: usize, lo: Bound, hi: Bound, owner
         return true;
     }
     let at = through(lows, n, lo);
-    let end = before(lows, n, hi);
+    let end = searches::before(lows, n, hi);
     if at != end {
         return false;
     }
     ends_with(owners, at, owner)
-}
-
-// How many of the first `among` bounds lie below b. End is no key: every bound lies below it.
-fn before(lows: &[u64], among: usize, b: Bound) -> usize
-    ensures { Before lows.now among b result }
-{
-    match b {
-        Bound::Key(k) => {
-            if k == 0 {
-                return 0;
-            }
-            delegation::upto(lows, among, k - 1)
-        }
-        Bound::End => among,
-    }
 }
 
 // How many of the n bounds lie at b or below it.
@@ -103,10 +89,7 @@ fn ends_with(owners: &[u64], n: usize, owner: u64) -> bool
     requires { n ≤ length owners.now }
     ensures { EndsWith owners.now n owner result }
 {
-    if n == 0 {
-        return false;
-    }
-    owners[n - 1] == owner
+    0 < n && owners[n - 1] == owner
 }
 
 // The owner of the last of the first n bounds.
@@ -114,10 +97,7 @@ fn owner_of(owners: &[u64], n: usize) -> u64
     requires { n ≤ length owners.now }
     ensures { 0 < n → result ≡ get_or owners.now (n - 1) 0 }
 {
-    if n == 0 {
-        return 0;
-    }
-    owners[n - 1]
+    owners[..n].last().copied().unwrap_or(0)
 }
 
 // Does the owner change at hi, where the keys are `after`'s from hi on?
@@ -128,14 +108,4 @@ fn turns(hi: Bound, after: u64, owner: u64) -> bool
         Bound::Key(_) => after != owner,
         Bound::End => false,
     }
-}
-
-// How many bounds are put: one if b, else none.
-fn one_if(b: bool) -> usize
-    ensures { (result ≡ count b) × (result ≤ 1) }
-{
-    if b {
-        return 1;
-    }
-    0
 }

@@ -11,10 +11,7 @@ use delivery::WORDS;
 pub fn post(counts: &mut [u64], places: &mut [u64], peer: usize, p: usize, number: u64, len: usize)
     ensures { AfterPost counts.old places.old peer p number len counts.new places.new }
 {
-    if counts.len() / WORDS <= peer {
-        return;
-    }
-    if places.len() / WORDS <= p {
+    if counts.len() / WORDS <= peer || places.len() / WORDS <= p {
         return;
     }
     counts[peer * WORDS + 2] = number;

@@ -2,61 +2,43 @@
 // out.
 #![tactic(auto)]
 
-ghost use Rattle.hosts.specs.Memory.{memory};
+ghost use Rattle.lent.specs.Parts.{IndexStays, MapStays, PostStays, StringsStay};
+ghost use Rattle.lent.specs.Contents.{index_now, map_now, post_now, strings_now, strings_seen};
+ghost use Rattle.hosts.specs.Memory.{memory_of};
 ghost use Rattle.processing.specs.Answers.{AfterProcess};
 
 use hosts::{Done, Processed, State};
+use lent::{Index, Map, Post, Strings};
 use message::Parsed;
 
 // Processes the message in the room, if there is one. What is sent is put into the place of the hint, if that
 // is free.
 pub fn process(
-    lows: &mut [u64],
-    owners: &mut [u64],
-    keys: &mut [u64],
-    slots: &mut [u64],
-    lens: &mut [u64],
-    values: &mut [u8],
-    name_lens: &[u64],
-    names: &[u8],
-    counts: &mut [u64],
-    places: &mut [u64],
+    map: &mut Map<&mut [u64]>,
+    index: &mut Index<&mut [u64]>,
+    values: &mut Strings<&mut [u64], &mut [u8]>,
+    names: Strings<&[u64], &[u8]>,
+    post: &mut Post<&mut [u64]>,
     mail: &mut [u8],
     room: &[u8],
     k: State,
     hint: usize,
 ) -> Done
-    ensures { AfterProcess (memory lows.old owners.old keys.old slots.old lens.old values.old name_lens.now names.now counts.old places.old mail.old)
+    ensures stays { MapStays map.old map.new × IndexStays index.old index.new × StringsStay values.old values.new × PostStays post.old post.new }
+    ensures is { AfterProcess
+        (memory_of (map_now map.old) (index_now index.old) (strings_now values.old) (strings_seen names.entry) (post_now post.old) mail.old)
         k room.now result
-        (memory lows.new owners.new keys.new slots.new lens.new values.new name_lens.now names.now counts.new places.new mail.new) }
+        (memory_of (map_now map.new) (index_now index.new) (strings_now values.new) (strings_seen names.entry) (post_now post.new) mail.new) }
 {
-    if k.len == 0 {
+    if k.len == 0 || room.len() < k.len {
         return staying::staying(k, Processed::Idle);
     }
-    if room.len() < k.len {
-        return staying::staying(k, Processed::Idle);
-    }
-    let end = k.len;
-    let parsed = parsing::parse(&room[0..end]);
-    match parsed {
-        Parsed::Message(_, _, body) => rows::row(
-            lows,
-            owners,
-            keys,
-            slots,
-            lens,
-            values,
-            name_lens,
-            names,
-            counts,
-            places,
-            mail,
-            k,
-            &room[0..end],
-            body,
-            hint,
+    let s = &room[..k.len];
+    match parsing::parse(s) {
+        Some(Parsed::Message(_, _, body)) => rows::row(
+            map, index, values, names, post, mail, k, s, body, hint,
         ),
-        Parsed::Ack(_) => staying::staying(k, Processed::Idle),
-        Parsed::Invalid => staying::staying(k, Processed::Idle),
+        Some(Parsed::Ack(_)) => staying::staying(k, Processed::Idle),
+        None => staying::staying(k, Processed::Idle),
     }
 }

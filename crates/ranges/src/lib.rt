@@ -6,16 +6,10 @@ ghost use Rattle.ranges.specs.Answers.{AfterPick};
 ghost use Rattle.ranges.specs.Inner.{Noted};
 
 use keys::Bound;
-use records::Found;
+use limits::NoRoom;
 
-// What picking out a range answers: how many entries it has, or that they do not fit what is lent.
-#[derive(Clone, Copy)]
-pub enum Picked {
-    Count(usize),
-    NoRoom,
-}
-
-// Writes down the range's entries in rising order: key, place and length of the value.
+// Writes down the range's entries in rising order: key, place and length of the value. Answers how
+// many there are, or that they do not fit what is lent.
 pub fn pick(
     keys: &[u64],
     slots: &[u64],
@@ -27,33 +21,27 @@ pub fn pick(
     to_keys: &mut [u64],
     to_ats: &mut [u64],
     to_lens: &mut [u64],
-) -> Picked
+) -> Result<usize, NoRoom>
     ensures { AfterPick keys.now slots.now lens.now values.now n lo hi
         to_keys.old to_ats.old to_lens.old result
         to_keys.new to_ats.new to_lens.new }
 {
     if keys.len() < n {
-        return Picked::Count(0);
+        return Ok(0);
     }
     let first = searches::before(keys, n, lo);
     let last = searches::before(keys, n, hi);
     if last <= first {
-        return Picked::Count(0);
+        return Ok(0);
     }
     let m = last - first;
-    if to_keys.len() < m {
-        return Picked::NoRoom;
-    }
-    if to_ats.len() < m {
-        return Picked::NoRoom;
-    }
-    if to_lens.len() < m {
-        return Picked::NoRoom;
+    if to_keys.len() < m || to_ats.len() < m || to_lens.len() < m {
+        return Err(NoRoom);
     }
     note(
         keys, slots, lens, values, n, first, m, to_keys, to_ats, to_lens,
     );
-    Picked::Count(m)
+    Ok(m)
 }
 
 // Writes down the m entries from place i on.
@@ -73,16 +61,11 @@ fn note(
     ensures { Noted keys.now slots.now lens.now values.now n i m
         to_keys.new to_ats.new to_lens.new }
 {
-    let mut y: usize = 0;
-    while y < m {
+    for y in 0..m {
         let key = keys[i + y];
+        let (at, len) = records::get(keys, slots, lens, values, n, key).unwrap_or((0, 0));
         to_keys[y] = key;
-        to_ats[y] = 0;
-        to_lens[y] = 0;
-        if let Found::At(at, len) = records::get(keys, slots, lens, values, n, key) {
-            to_ats[y] = at as u64;
-            to_lens[y] = len as u64;
-        }
-        y += 1;
+        to_ats[y] = at as u64;
+        to_lens[y] = len as u64;
     }
 }

@@ -10,18 +10,19 @@ ghost use Rattle.receiving.specs.Inner.{ack_outcome_of};
 use format::WIDTH;
 use hosts::State;
 use incoming::{Arrival, Received};
+use lent::{Index, Map, Post, Strings};
 use message::Parsed;
 
 // The datagram s arrives from an address. After Taken and Again the Ack stands at the front of `ack`.
-pub fn receive(
+pub fn receive<'a>(
     lows: &[u64],
     owners: &[u64],
     keys: &[u64],
     slots: &[u64],
-    name_lens: &mut [u64],
-    names: &mut [u8],
-    counts: &mut [u64],
-    places: &mut [u64],
+    name_lens: &'a mut [u64],
+    names: &'a mut [u8],
+    counts: &'a mut [u64],
+    places: &'a mut [u64],
     room: &mut [u8],
     ack: &mut [u8],
     k: State,
@@ -38,17 +39,28 @@ pub fn receive(
     if k.len != 0 {
         return incoming::left(k, Received::Full);
     }
-    let parsed = parsing::parse(s);
-    match parsed {
-        Parsed::Message(n, to, body) => incoming::message(
-            lows, owners, keys, slots, name_lens, names, counts, places, room, ack, k, from, s, n,
-            to, body,
-        ),
-        Parsed::Ack(n) => {
-            let counted = acknowledging::ack(name_lens, names, counts, places, k, from, n);
+    match parsing::parse(s) {
+        Some(Parsed::Message(n, to, body)) => {
+            let map = Map { lows, owners };
+            let index = Index { keys, slots };
+            let mut known = Strings {
+                lens: name_lens,
+                bytes: names,
+            };
+            incoming::message(
+                map, index, &mut known, counts, places, room, ack, k, from, s, n, to, body,
+            )
+        }
+        Some(Parsed::Ack(n)) => {
+            let known = Strings {
+                lens: &*name_lens,
+                bytes: &*names,
+            };
+            let mut post = Post { counts, places };
+            let counted = acknowledging::ack(known, &mut post, k, from, n);
             incoming::left(k, ack_outcome(counted))
         }
-        Parsed::Invalid => incoming::left(k, Received::Invalid),
+        None => incoming::left(k, Received::Invalid),
     }
 }
 
@@ -57,7 +69,8 @@ fn ack_outcome(counted: bool) -> Received
     ensures { result ≡ ack_outcome_of counted }
 {
     if counted {
-        return Received::Arrived;
+        Received::Arrived
+    } else {
+        Received::Stale
     }
-    Received::Stale
 }

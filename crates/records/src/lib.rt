@@ -14,29 +14,12 @@ mod slots;
 ghost use Rattle.records.specs.Answers.{AfterStart, Fits, Got};
 
 use limits::VALUE_MAX;
-use searches::Spot;
-
-// Where a key's value stands in `values`, as its start and its length, or that the key has none.
-#[derive(Clone, Copy)]
-pub enum Found {
-    At(usize, usize),
-    Nothing,
-}
 
 // Do slices of these lengths fit together, with n entries in use?
 pub fn fits(keys: usize, slots: usize, lens: usize, values: usize, n: usize) -> bool
     ensures { Fits keys slots lens values n result }
 {
-    if slots < n {
-        return false;
-    }
-    if keys < slots {
-        return false;
-    }
-    if lens < slots {
-        return false;
-    }
-    slots <= values / VALUE_MAX
+    n <= slots && slots <= keys && slots <= lens && slots <= values / VALUE_MAX
 }
 
 // An empty table with as many places as there are slots. Answers whether what is lent fits together.
@@ -50,13 +33,19 @@ pub fn start(keys: &[u64], slots: &mut [u64], lens: &[u64], values: &[u8]) -> bo
     true
 }
 
-// Where is the key's value?
-pub fn get(keys: &[u64], slots: &[u64], lens: &[u64], values: &[u8], n: usize, key: u64) -> Found
+// Where the key's value stands in `values`, as its start and its length, or None if the key has none.
+pub fn get(
+    keys: &[u64],
+    slots: &[u64],
+    lens: &[u64],
+    values: &[u8],
+    n: usize,
+    key: u64,
+) -> Option<(usize, usize)>
     ensures { Got keys.now slots.now lens.now values.now n key result }
 {
-    let spot = searches::seek(keys, n, key);
-    match spot {
-        Spot::Old(i) => place::of(slots, lens, values, i),
-        Spot::New(_) => Found::Nothing,
+    match searches::seek(keys, n, key) {
+        Ok(i) => place::of(slots, lens, values, i),
+        Err(_) => None,
     }
 }

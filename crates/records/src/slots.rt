@@ -5,9 +5,7 @@ ghost use Rattle.records.specs.Memory.{Slots};
 pub(crate) fn number(slots: &mut [u64])
     ensures { Slots slots.new }
 {
-    let mut i: usize = 0;
-    while i < slots.len() {
-        slots[i] = i as u64;
-        i += 1;
+    for (i, slot) in slots.iter_mut().enumerate() {
+        *slot = i as u64;
     }
 }

@@ -3,20 +3,17 @@
 
 ghost use Rattle.std.specs.Prelude.{◌<◌};
 ghost use Rattle.message.specs.Message.{redirect};
+ghost use Rattle.lent.specs.Parts.{PostStays};
 ghost use Rattle.sending.specs.Answers.{AfterSend};
 
-use message::Written;
-use peers::Where;
-use sending::Slot;
+use lent::{Post, Strings};
 
 // Writes the Redirect to the owner into place p and lets it wait there as the peer's message with that
 // number.
 pub fn redirect(
-    name_lens: &[u64],
-    names: &[u8],
+    names: Strings<&[u64], &[u8]>,
     width: usize,
-    counts: &mut [u64],
-    places: &mut [u64],
+    post: &mut Post<&mut [u64]>,
     mail: &mut [u8],
     size: usize,
     peer: usize,
@@ -25,25 +22,28 @@ pub fn redirect(
     key: u64,
     owner: usize,
 ) -> bool
-    ensures { AfterSend name_lens.now names.now width counts.old places.old mail.old
-        size peer p number (λ n. owner < n) (λ N. redirect key (N owner)) result counts.new places.new mail.new }
+    ensures stays { PostStays post.old post.new }
+    ensures is { AfterSend names.entry.lens.now names.entry.bytes.now width post.old.counts.now post.old.places.now mail.old
+        size peer p number (λ n. owner < n) (λ N. redirect key (N owner)) result post.new.counts.now post.new.places.now mail.new }
 {
-    let Where::At(a, b) = peers::name(name_lens, names, width, peer) else {
+    let Some((a, b)) = peers::name(names.lens, names.bytes, width, peer) else {
         return false;
     };
-    let Where::At(c, d) = peers::name(name_lens, names, width, owner) else {
+    let Some((c, d)) = peers::name(names.lens, names.bytes, width, owner) else {
         return false;
     };
-    let Slot::Between(from, to) = sending::lies(mail.len(), size, p) else {
+    let Some((from, to)) = sending::lies(mail.len(), size, p) else {
         return false;
     };
-    let written = directing::redirect(number, &names[a..b], key, &names[c..d], &mut mail[from..to]);
-    match written {
-        Written::Bytes(len) => {
-            posting::post(counts, places, peer, p, number, len);
-            true
-        }
-        Written::NoRoom => false,
-        Written::Invalid => false,
-    }
+    let Ok(len) = directing::redirect(
+        number,
+        &names.bytes[a..b],
+        key,
+        &names.bytes[c..d],
+        &mut mail[from..to],
+    ) else {
+        return false;
+    };
+    posting::post(post.counts, post.places, peer, p, number, len);
+    true
 }

@@ -2,16 +2,16 @@
 // a Set both lead here.
 #![tactic(auto)]
 
+ghost use Rattle.lent.specs.Parts.{PostStays};
 ghost use Rattle.referring.specs.Answers.{AfterRefer};
 
 use hosts::{Done, Processed, State};
+use lent::{Post, Strings};
 
 // Sends the Redirect from the free place p, with that number.
 pub fn refer(
-    name_lens: &[u64],
-    names: &[u8],
-    counts: &mut [u64],
-    places: &mut [u64],
+    names: Strings<&[u64], &[u8]>,
+    post: &mut Post<&mut [u64]>,
     mail: &mut [u8],
     k: State,
     p: usize,
@@ -19,11 +19,12 @@ pub fn refer(
     key: u64,
     owner: usize,
 ) -> Done
-    ensures { AfterRefer name_lens.now names.now counts.old places.old mail.old k p number key owner result
-        counts.new places.new mail.new }
+    ensures stays { PostStays post.old post.new }
+    ensures is { AfterRefer names.entry.lens.now names.entry.bytes.now post.old.counts.now post.old.places.now mail.old k p number key owner result
+        post.new.counts.now post.new.places.now mail.new }
 {
     let sent = redirecting::redirect(
-        name_lens, names, k.width, counts, places, mail, k.size, k.from, p, number, key, owner,
+        names, k.width, post, mail, k.size, k.from, p, number, key, owner,
     );
     hosts::answered(k, sent, Processed::Redirected(p))
 }

@@ -7,22 +7,17 @@ ghost use Rattle.removals.specs.Answers.{AfterDelete, AfterRemove};
 ghost use Rattle.removals.specs.Inner.{AfterSpan, Sunk};
 
 use keys::Bound;
-use searches::Spot;
 
 // Takes the key's entry out, if it has one, and answers how many entries are left.
 pub fn delete(keys: &mut [u64], slots: &mut [u64], n: usize, key: u64) -> usize
     ensures { AfterDelete keys.old slots.old n key result keys.new slots.new }
 {
-    if keys.len() < n {
+    if keys.len() < n || slots.len() < n {
         return n;
     }
-    if slots.len() < n {
-        return n;
-    }
-    let spot = searches::seek(keys, n, key);
-    match spot {
-        Spot::Old(i) => span(keys, slots, n, i, i + 1),
-        Spot::New(_) => n,
+    match searches::seek(keys, n, key) {
+        Ok(i) => span(keys, slots, n, i, i + 1),
+        Err(_) => n,
     }
 }
 
@@ -30,10 +25,7 @@ pub fn delete(keys: &mut [u64], slots: &mut [u64], n: usize, key: u64) -> usize
 pub fn remove(keys: &mut [u64], slots: &mut [u64], n: usize, lo: Bound, hi: Bound) -> usize
     ensures { AfterRemove keys.old slots.old n lo hi result keys.new slots.new }
 {
-    if keys.len() < n {
-        return n;
-    }
-    if slots.len() < n {
+    if keys.len() < n || slots.len() < n {
         return n;
     }
     let i = searches::before(keys, n, lo);
@@ -54,18 +46,10 @@ fn span(keys: &mut [u64], slots: &mut [u64], n: usize, i: usize, j: usize) -> us
     n - (j - i)
 }
 
-// Moves those from j on down to i, and those from i up to j behind them, by swapping one by one.
+// Moves those from j on down to i, and those from i up to j behind them.
 fn sink(slots: &mut [u64], n: usize, i: usize, j: usize)
     requires { (i ≤ j) × (j ≤ n) × (n ≤ length slots.old) }
     ensures { Sunk slots.old n i j slots.new }
 {
-    let mut to = i;
-    let mut from = j;
-    while from < n {
-        let s = slots[to];
-        slots[to] = slots[from];
-        slots[from] = s;
-        to += 1;
-        from += 1;
-    }
+    slots[i..n].rotate_left(j - i);
 }

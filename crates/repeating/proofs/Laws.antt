@@ -8,10 +8,11 @@ use lib.ListN.{length, take}
 use Rattle.message.specs.Message.{Address, Body, message}
 use Rattle.message.specs.Table.{written}
 use Rattle.delivery.specs.Memory.{capacity}
-use Rattle.resending.specs.declared.Listed.{Listed}
-use Rattle.resending.specs.declared.Listed.TheVariants.{Places, NoRoom}
+use Rattle.std.specs.Prelude.{Result, Ok, Err}
+use Rattle.std.specs.Result.{result_unwrap_or}
+use Rattle.limits.specs.declared.NoRoom.{NoRoom}
 use Rattle.resending.specs.Answers.{Letter, letter_at, letter_to, letters_to, letters, AfterAll}
-use Rattle.resending.proofs.Laws.{all_as, all_fits}
+use Rattle.resending.proofs.Laws.{all_fits}
 use Rattle.protocol.specs.State.{Host}
 use Rattle.protocol.specs.Delivery.{Packet, numbered_from}
 use Rattle.protocol.specs.Retransmit.{to_all}
@@ -20,7 +21,6 @@ use Rattle.hosts.specs.Memory.{Memory, memory, name_at}
 use Rattle.hosts.specs.Says.{firsts, datagrams}
 use Rattle.hosts.specs.Keeps.{Core}
 use Rattle.hosts.proofs.Core.{name_is}
-use Rattle.repeating.specs.declared.Repeated.TheVariants.{Places as Repeats}
 use Rattle.repeating.specs.Answers.{AfterRepeat}
 
 -- ---- one peer
@@ -67,26 +67,21 @@ module _ (m : Memory) (k : State) (h : Host) (C : Core m k h) where
 
 -- ---- what was written down
 
-module _ {counts places : List ℕ} {k : State} {out out' : List ℕ} {r : Listed} (A : AfterAll counts places k.peers out r out') where
-  -- n places
-  pub repeated : {n : ℕ} → r ≡ Places n → AfterRepeat counts places k out (Repeats n) out'
-  repeated {n} e =
-      let B = (all_as e A).is in
-      record {
-        is = (
-          B.0,
-          λ lows owners keys slots lens values name_lens names mail h C.
-              let m = memory lows owners keys slots lens values name_lens names counts places mail in
-              let g = addressed name_lens names k.width in
-              sym (map-map g (letter_at places mail k.size) (take n out'))
-              ∙ ap (map g) (B.1 mail k.size C.P C.post_kept)
-              ∙ to_firsts m k h C k.peers (omega arith)
-              ∙ ap (to_all h) C.says.peers_are,
-        );
-      }
-
-  -- a list with a place for each waiting message has room for all
-  pub never : capacity places ≤ length out → r ≡ NoRoom → AfterRepeat counts places k out (Repeats 0) out'
-  never l e = record {
-    is = (omega arith, λ lows owners keys slots lens values name_lens names mail h C. absurd (all_fits C.post_kept l A e));
-  }
+-- n places, or none; but a list with a place for each waiting message has room for all
+pub repeated : {counts places : List ℕ} {k : State} {out out' : List ℕ} (r : Result ℕ NoRoom) → capacity places ≤ length out
+    → AfterAll counts places k.peers out r out' → AfterRepeat counts places k out (Ok (result_unwrap_or r 0)) out'
+repeated {counts} {places} {k} {out' = out'} (Ok n) l A = record {
+  is = (
+    A.is.0,
+    λ lows owners keys slots lens values name_lens names mail h C.
+        let m = memory lows owners keys slots lens values name_lens names counts places mail in
+        let g = addressed name_lens names k.width in
+        sym (map-map g (letter_at places mail k.size) (take n out'))
+        ∙ ap (map g) (A.is.1 mail k.size C.P C.post_kept)
+        ∙ to_firsts m k h C k.peers (omega arith)
+        ∙ ap (to_all h) C.says.peers_are,
+  );
+}
+repeated (Err e) l A = record {
+  is = (omega arith, λ lows owners keys slots lens values name_lens names mail h C. absurd (all_fits C.post_kept l A));
+}

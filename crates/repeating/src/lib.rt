@@ -6,25 +6,21 @@ ghost use Rattle.repeating.specs.Answers.{AfterRepeat};
 
 use delivery::WORDS;
 use hosts::State;
-use resending::Listed;
+use limits::NoRoom;
 
-// How many places were written down, or that fewer were lent for them than there are waiting places.
-#[derive(Clone, Copy)]
-pub enum Repeated {
-    Places(usize),
-    NoRoom,
-}
-
-// Writes down the places of all waiting messages.
-pub fn retransmit(counts: &[u64], places: &[u64], k: State, out: &mut [u64]) -> Repeated
+// Writes down the places of all waiting messages, and answers how many; or fewer were lent for them than there
+// are places.
+pub fn retransmit(
+    counts: &[u64],
+    places: &[u64],
+    k: State,
+    out: &mut [u64],
+) -> Result<usize, NoRoom>
     ensures { AfterRepeat counts.now places.now k out.old result out.new }
 {
     if out.len() < places.len() / WORDS {
-        return Repeated::NoRoom;
+        return Err(NoRoom);
     }
-    let listed = resending::all(counts, places, k.peers, out);
-    match listed {
-        Listed::Places(n) => Repeated::Places(n),
-        Listed::NoRoom => Repeated::Places(0),
-    }
+    // So many have room. Where memory keeps no host they may not, and then none is handed out.
+    Ok(resending::all(counts, places, k.peers, out).unwrap_or(0))
 }

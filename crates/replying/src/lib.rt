@@ -3,44 +3,37 @@
 
 ghost use Rattle.message.specs.Given.{given};
 ghost use Rattle.message.specs.Message.{reply};
+ghost use Rattle.lent.specs.Parts.{PostStays};
 ghost use Rattle.sending.specs.Answers.{AfterSend};
 
-use message::Written;
-use peers::Where;
-use sending::Slot;
+use lent::{Post, Strings};
 
 // Writes the Reply into place p and lets it wait there as the peer's message with that number.
 pub fn reply(
-    name_lens: &[u64],
-    names: &[u8],
+    names: Strings<&[u64], &[u8]>,
     width: usize,
-    counts: &mut [u64],
-    places: &mut [u64],
+    post: &mut Post<&mut [u64]>,
     mail: &mut [u8],
     size: usize,
     peer: usize,
     p: usize,
     number: u64,
     key: u64,
-    some: bool,
-    v: &[u8],
+    v: Option<&[u8]>,
 ) -> bool
-    ensures { AfterSend name_lens.now names.now width counts.old places.old mail.old
-        size peer p number (λ n. Unit) (λ N. reply key (given some v.now)) result counts.new places.new mail.new }
+    ensures stays { PostStays post.old post.new }
+    ensures is { AfterSend names.entry.lens.now names.entry.bytes.now width post.old.counts.now post.old.places.now mail.old
+        size peer p number (λ n. Unit) (λ N. reply key (given v.entry)) result post.new.counts.now post.new.places.now mail.new }
 {
-    let Where::At(a, b) = peers::name(name_lens, names, width, peer) else {
+    let Some((a, b)) = peers::name(names.lens, names.bytes, width, peer) else {
         return false;
     };
-    let Slot::Between(from, to) = sending::lies(mail.len(), size, p) else {
+    let Some((from, to)) = sending::lies(mail.len(), size, p) else {
         return false;
     };
-    let written = answering::reply(number, &names[a..b], key, some, v, &mut mail[from..to]);
-    match written {
-        Written::Bytes(len) => {
-            posting::post(counts, places, peer, p, number, len);
-            true
-        }
-        Written::NoRoom => false,
-        Written::Invalid => false,
-    }
+    let Ok(len) = answering::reply(number, &names.bytes[a..b], key, v, &mut mail[from..to]) else {
+        return false;
+    };
+    posting::post(post.counts, post.places, peer, p, number, len);
+    true
 }

@@ -1,7 +1,7 @@
 -- The laws of going through all waiting messages: a message is found by its peer and number, one more place written down is one more letter, and
 -- a list as long as there are places has room for all.
 -- Assumes nothing.
-use mathlib.Core.Path.{◌≡◌, refl, sym, ap, ap₂, ◌∙◌, subst}
+use mathlib.Core.Path.{◌≡◌, refl, sym, ap, ap₂, ◌∙◌}
 use mathlib.Core.List.{List, [], ◌∷◌, ◌++◌, map, map-append, append_assoc}
 use Prim.Native.Nat.{ℕ, zero, suc, ◌+◌, ◌≤◌, ◌<◌}
 use native.Mathlib.Omega.{arith}
@@ -12,23 +12,9 @@ use borrow.Author.Count.{below_more}
 use Rattle.delivery.specs.Post.{Post, total}
 use Rattle.delivery.specs.Memory.{capacity, mark_at, number_at, datagram_at, Keeps, Standing}
 use Rattle.delivery.proofs.Counting.{keeps_fits}
-use Rattle.resending.specs.declared.Found.{Found}
-use Rattle.resending.specs.declared.Listed.{Listed}
-use Rattle.resending.specs.declared.Listed.TheVariants.{NoRoom}
-use Rattle.resending.specs.Answers.{Letter, letter_at, letter_to, letters_to, letters, named, Within, AfterFind, AfterPeer, AfterAll}
-
--- ---- an answer that is known
-
-pub find_as : {places : List ℕ} {peer x : ℕ} {r q : Found} → r ≡ q → AfterFind places peer x r → AfterFind places peer x q
-find_as {places} {peer} {x} e A = subst (AfterFind places peer x) e A
-
-pub peer_as : {counts places : List ℕ} {peer : ℕ} {out : List ℕ} {from : ℕ} {r q : Listed} {out' : List ℕ} → r ≡ q
-    → AfterPeer counts places peer out from r out' → AfterPeer counts places peer out from q out'
-peer_as {counts} {places} {peer} {out} {from} {out' = out'} e A = subst (λ r. AfterPeer counts places peer out from r out') e A
-
-pub all_as : {counts places : List ℕ} {n : ℕ} {out : List ℕ} {r q : Listed} {out' : List ℕ} → r ≡ q → AfterAll counts places n out r out'
-    → AfterAll counts places n out q out'
-all_as {counts} {places} {n} {out} {out' = out'} e A = subst (λ r. AfterAll counts places n out r out') e A
+use Rattle.std.specs.Prelude.{Err}
+use Rattle.limits.specs.declared.NoRoom.{NoRoom}
+use Rattle.resending.specs.Answers.{Letter, letter_at, letter_to, letters_to, letters, named, Within, AfterAll}
 
 -- ---- the place of a message
 
@@ -85,7 +71,7 @@ module _ (places mail out : List ℕ) (size at : ℕ) where
 -- ---- room for all
 
 -- a list as long as there are places is long enough
-pub all_fits : {counts places mail out out' : List ℕ} {size n : ℕ} {P : Post} {r : Listed} → Keeps counts places mail size n P
-    → capacity places ≤ length out → AfterAll counts places n out r out' → r ≡ NoRoom → ⊥
-all_fits {mail = mail} {size = size} {P = P} K h A e =
-    omega (arith, keeps_fits K, (all_as e A).is mail size P K)
+pub all_fits : {counts places mail out out' : List ℕ} {size n : ℕ} {P : Post} {e : NoRoom} → Keeps counts places mail size n P
+    → capacity places ≤ length out → AfterAll counts places n out (Err e) out' → ⊥
+all_fits {mail = mail} {size = size} {P = P} K h A =
+    omega (arith, keeps_fits K, A.is mail size P K)

@@ -1,23 +1,20 @@
 -- What going through all waiting messages answers.
 -- Assumes nothing.
-use Rattle.std.specs.Prelude.{◌≡◌, List, [], ◌++◌, map, ℕ, zero, suc, ◌+◌, ◌≤◌, ◌<◌, length, take, get_or}
+use Rattle.std.specs.Prelude.{◌≡◌, List, [], ◌++◌, map, ℕ, zero, suc, ◌+◌, ◌≤◌, ◌<◌, length, take, get_or, Option, Some, None, Result, Ok, Err}
 use Rattle.delivery.specs.Post.{Post, total}
 use Rattle.delivery.specs.Memory.{Keeps, Standing, capacity, mark_at, datagram_at}
-use Rattle.resending.specs.declared.Found.{Found}
-use Rattle.resending.specs.declared.Found.TheVariants.{At, Nowhere}
-use Rattle.resending.specs.declared.Listed.{Listed}
-use Rattle.resending.specs.declared.Listed.TheVariants.{Places, NoRoom}
+use Rattle.limits.specs.declared.NoRoom.{NoRoom}
 
 -- the place of the peer's message with that number, or it has none
-abbrev pub FindCases : Found → List ℕ → ℕ → ℕ → Type 0
-FindCases (At p) places peer x =
+abbrev pub FindCases : Option ℕ → List ℕ → ℕ → ℕ → Type 0
+FindCases (Some p) places peer x =
     (p < capacity places) × ((counts mail : List ℕ) (size n : ℕ) (P : Post) → Keeps counts places mail size n P → (j : ℕ) → peer < n
     → j < length (P.waiting peer) → x ≡ suc (P.acknowledged peer + j) → Standing places mail size p peer x (get_or (P.waiting peer) j []))
-FindCases Nowhere places peer x =
+FindCases None places peer x =
     (counts mail : List ℕ) (size n : ℕ) (P : Post) → Keeps counts places mail size n P → (j : ℕ) → peer < n
     → j < length (P.waiting peer) → x ≡ suc (P.acknowledged peer + j) → ⊥
 
-pub record AfterFind (places : List ℕ) (peer x : ℕ) (r : Found) : Type 0 where
+pub record AfterFind (places : List ℕ) (peer x : ℕ) (r : Option ℕ) : Type 0 where
   pub is : FindCases r places peer x
 
 -- ---- all that waits, in the order in which it is sent again
@@ -53,27 +50,27 @@ abbrev pub Within : (places : List ℕ) → ℕ → (out : List ℕ) → Type 0
 Within places m out = (k : ℕ) → k < m → get_or out k 0 < capacity places
 
 -- behind the first `from` stand the places of all that waits for the peer, m in all, or that is more than there is room for
-abbrev pub PeerCases : Listed → (counts places : List ℕ) → ℕ → (out : List ℕ) → ℕ → (out' : List ℕ) → Type 0
-PeerCases (Places m) counts places peer out from out' =
+abbrev pub PeerCases : Result ℕ NoRoom → (counts places : List ℕ) → ℕ → (out : List ℕ) → ℕ → (out' : List ℕ) → Type 0
+PeerCases (Ok m) counts places peer out from out' =
     (m ≤ length out)
     × ((mail : List ℕ) (size n : ℕ) (P : Post) → Keeps counts places mail size n P → peer < n
     → named places mail size m out' ≡ named places mail size from out ++ letters_to P peer)
     × (Within places from out → Within places m out')
-PeerCases NoRoom counts places peer out from out' =
+PeerCases (Err e) counts places peer out from out' =
     (mail : List ℕ) (size n : ℕ) (P : Post) → Keeps counts places mail size n P → peer < n → length out < from + length (P.waiting peer)
 
-pub record AfterPeer (counts places : List ℕ) (peer : ℕ) (out : List ℕ) (from : ℕ) (r : Listed) (out' : List ℕ) : Type 0 where
+pub record AfterPeer (counts places : List ℕ) (peer : ℕ) (out : List ℕ) (from : ℕ) (r : Result ℕ NoRoom) (out' : List ℕ) : Type 0 where
   pub is : PeerCases r counts places peer out from out'
 
 -- the places of all waiting messages, and no others, stand in that order at the front of what was lent for them, or they are more than it has
 -- room for
-abbrev pub AllCases : Listed → (counts places : List ℕ) → ℕ → (out out' : List ℕ) → Type 0
-AllCases (Places m) counts places n out out' =
+abbrev pub AllCases : Result ℕ NoRoom → (counts places : List ℕ) → ℕ → (out out' : List ℕ) → Type 0
+AllCases (Ok m) counts places n out out' =
     (m ≤ length out)
     × ((mail : List ℕ) (size : ℕ) (P : Post) → Keeps counts places mail size n P → named places mail size m out' ≡ letters n P)
     × Within places m out'
-AllCases NoRoom counts places n out out' =
+AllCases (Err e) counts places n out out' =
     (mail : List ℕ) (size : ℕ) (P : Post) → Keeps counts places mail size n P → length out < total n P
 
-pub record AfterAll (counts places : List ℕ) (n : ℕ) (out : List ℕ) (r : Listed) (out' : List ℕ) : Type 0 where
+pub record AfterAll (counts places : List ℕ) (n : ℕ) (out : List ℕ) (r : Result ℕ NoRoom) (out' : List ℕ) : Type 0 where
   pub is : AllCases r counts places n out out'

@@ -7,35 +7,18 @@ ghost use Rattle.std.specs.Prelude.{◌≡◌, true, false, suc, ◌≤◌, leng
 ghost use Rattle.resending.specs.Answers.{AfterFind, AfterPeer, AfterAll};
 
 use delivery::WORDS;
-
-// The place of a message.
-#[derive(Clone, Copy)]
-pub enum Found {
-    At(usize),
-    Nowhere,
-}
-
-// How many places were written down, or that they do not fit what is lent.
-#[derive(Clone, Copy)]
-pub enum Listed {
-    Places(usize),
-    NoRoom,
-}
+use limits::NoRoom;
 
 // Where does the peer's message with that number wait? The places are looked through from the front.
-pub fn find(places: &[u64], peer: usize, number: u64) -> Found
+pub fn find(places: &[u64], peer: usize, number: u64) -> Option<usize>
     ensures { AfterFind places.now peer number result }
 {
-    let mut p: usize = 0;
-    while p < places.len() / WORDS {
-        if places[p * WORDS + 1] == number {
-            if is_for(places[p * WORDS], peer) {
-                return Found::At(p);
-            }
+    for p in 0..places.len() / WORDS {
+        if places[p * WORDS + 1] == number && is_for(places[p * WORDS], peer) {
+            return Some(p);
         }
-        p += 1;
     }
-    Found::Nowhere
+    None
 }
 
 // Is a place with that mark the peer's? The mark is one more than the peer's number, which may be the
@@ -43,52 +26,48 @@ pub fn find(places: &[u64], peer: usize, number: u64) -> Found
 fn is_for(mark: u64, peer: usize) -> bool
     ensures { (result ≡ true → mark ≡ suc peer) × (result ≡ false → mark ≡ suc peer → ⊥) }
 {
-    if mark == 0 {
-        return false;
-    }
-    mark - 1 == peer as u64
+    mark.checked_sub(1) == Some(peer as u64)
 }
 
-// Writes down the places of all messages that wait for the first n peers. At most as many are written down
+// Writes down the places of all messages that wait for the first n peers, and answers how many. At most as many are written down
 // as there is room for, whatever the counts say, so the work is bounded by what is lent.
-pub fn all(counts: &[u64], places: &[u64], n: usize, out: &mut [u64]) -> Listed
+pub fn all(counts: &[u64], places: &[u64], n: usize, out: &mut [u64]) -> Result<usize, NoRoom>
     ensures { AfterAll counts.now places.now n out.old result out.new }
 {
     if counts.len() / WORDS < n {
-        return Listed::NoRoom;
+        return Err(NoRoom);
     }
     let mut at: usize = 0;
-    let mut i: usize = 0;
-    while i < n {
-        match of_peer(counts, places, i, out, at) {
-            Listed::Places(next) => at = next,
-            Listed::NoRoom => return Listed::NoRoom,
-        }
-        i += 1;
+    for i in 0..n {
+        at = of_peer(counts, places, i, out, at)?;
     }
-    Listed::Places(at)
+    Ok(at)
 }
 
 // Writes down the places of the messages that wait for one peer, behind the first `from` that are written
 // down already. Where memory keeps what is known of peers no message is missing; elsewhere it stops at the
 // first that is.
-fn of_peer(counts: &[u64], places: &[u64], peer: usize, out: &mut [u64], from: usize) -> Listed
+fn of_peer(
+    counts: &[u64],
+    places: &[u64],
+    peer: usize,
+    out: &mut [u64],
+    from: usize,
+) -> Result<usize, NoRoom>
     requires { from ≤ length out.old }
     ensures { AfterPeer counts.now places.now peer out.old from result out.new }
 {
     let known = delivery::counts_of(counts, peer);
-    let mut number = known.acknowledged;
     let mut at = from;
-    while number < known.last {
+    for number in known.acknowledged..known.last {
         if out.len() <= at {
-            return Listed::NoRoom;
+            return Err(NoRoom);
         }
-        number += 1;
-        match find(places, peer, number) {
-            Found::At(p) => out[at] = p as u64,
-            Found::Nowhere => return Listed::NoRoom,
-        }
+        let Some(p) = find(places, peer, number + 1) else {
+            return Err(NoRoom);
+        };
+        out[at] = p as u64;
         at += 1;
     }
-    Listed::Places(at)
+    Ok(at)
 }

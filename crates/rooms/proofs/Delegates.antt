@@ -18,8 +18,7 @@ use Rattle.message.specs.declared.BodyView.TheVariants.{Delegate}
 use Rattle.message.specs.View.{BodyIn}
 use Rattle.counts.specs.Answers.{Left}
 use Rattle.delegation.specs.Map.{room}
-use Rattle.peers.specs.declared.Peer.{Peer}
-use Rattle.peers.specs.declared.Peer.TheVariants.{Is, Unknown}
+use Rattle.std.specs.Prelude.{Some, None}
 use Rattle.peers.specs.Names.{AfterFind}
 use Rattle.protocol.specs.Address.{among}
 use Rattle.protocol.specs.Records.{replacing}
@@ -34,7 +33,6 @@ use Rattle.hosts.specs.Answers.{Heard}
 use Rattle.protocol.proofs.Addresses.{or_right}
 use Rattle.hosts.proofs.Names.{strange_among}
 use Rattle.hosts.proofs.Core.{name_is}
-use Rattle.hosts.proofs.Arrivals.{find_as}
 use Rattle.hosts.proofs.Maps.{left_bounded, bounded_left}
 use Rattle.hosts.proofs.Tables.{size_replaced}
 use Rattle.delegates.specs.Answers.{Fine, AfterColumns}
@@ -82,25 +80,25 @@ module _ {lows owners keys slots name_lens names : List ℕ} {k : State} {a : Ad
     };
   }
 
-  module _ {q : Peer} (A : AfterFind name_lens names k.width k.hosts a q) where
-    pub delegate_stranger : q ≡ Unknown → DelegateTested lows owners keys slots name_lens names k a s lo hi list true
-    delegate_stranger e =
-        needless
-        (λ lens values counts places mail h l C f b.
-        unfit_stranger (memory lows owners keys slots lens values name_lens names counts places mail) k h C l lo hi (es s list)
-        (λ i p z. (find_as e A).is C.N (keeps_fewer C.names_kept C.says.few) i p (z ∙ f)))
+  pub delegate_stranger : AfterFind name_lens names k.width k.hosts a None → DelegateTested lows owners keys slots name_lens names k a s lo hi list true
+  delegate_stranger A =
+      needless
+      (λ lens values counts places mail h l C f b.
+      unfit_stranger (memory lows owners keys slots lens values name_lens names counts places mail) k h C l lo hi (es s list)
+      (λ i p z. A.is C.N (keeps_fewer C.names_kept C.says.few) i p (z ∙ f)))
 
-    module _ {i : ℕ} (e : q ≡ Is i) {k' : State} (same : k' ≡ heard k i) {t : Bool} (F : Fine k' lo hi list.count t) where
+  module _ {i : ℕ} (A : AfterFind name_lens names k.width k.hosts a (Some i)) where
+    module _ {t : Bool} (F : Fine (heard k i) lo hi list.count t) where
       -- whether it is dropped, by the two tests
       unfit_is : (x : Bool) → t ≡ x → (lens values counts places mail : List ℕ) (h : Host) (l : Letter)
           → Core (memory lows owners keys slots lens values name_lens names counts places mail) k h → l.from ≡ a → BodyIn s (Delegate lo hi list)
           → unfit h l lo hi (es s list) ≡ not x || any_long (es s list)
       unfit_is x y lens values counts places mail h l C f b =
           let m = memory lows owners keys slots lens values name_lens names counts places mail in
-          let w = (find_as e A).is C.N (keeps_fewer C.names_kept C.says.few) in
+          let w = A.is C.N (keeps_fewer C.names_kept C.says.few) in
           let p : i < k.peers = omega (arith, w.0, C.says.few) in
           let H : Heard m (heard k i) l = record { from_in = p; from_is = name_is m k h C i p ∙ w.1 ∙ sym f } in
-          unfit_as (subst (λ (z : State). Fine z lo hi list.count t) same F) m h (core_heard m k h C i) l H b x y
+          unfit_as F m h (core_heard m k h C i) l H b x y
 
       pub delegate_unfit : t ≡ false → DelegateTested lows owners keys slots name_lens names k a s lo hi list true
       delegate_unfit y = needless (unfit_is false y)

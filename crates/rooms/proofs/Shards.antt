@@ -10,8 +10,7 @@ use Rattle.format.specs.declared.Part.{Part}
 use Rattle.message.specs.Message.{Address}
 use Rattle.message.specs.View.{bytes_of, PartIn}
 use Rattle.delegation.specs.Map.{room}
-use Rattle.peers.specs.declared.Peer.{Peer}
-use Rattle.peers.specs.declared.Peer.TheVariants.{Is, Unknown}
+use Rattle.std.specs.Prelude.{Some, None}
 use Rattle.protocol.specs.Owners.{giving}
 use Rattle.protocol.specs.State.{Host}
 use Rattle.protocol.specs.Process.{refused}
@@ -22,7 +21,6 @@ use Rattle.hosts.specs.Keeps.{Core}
 use Rattle.hosts.proofs.Totals.{free_place, all_taken}
 use Rattle.hosts.proofs.Maps.{left_bounded, bounded_left}
 use Rattle.shards.specs.Answers.{Fits, AfterRecipient, Movable}
-use Rattle.shards.proofs.Laws.{recipient_as}
 use Rattle.rooms.specs.Inner.{Vacant, ShardTested}
 use Rattle.rooms.proofs.Refused.{refused_recipient, refused_range, not_refused}
 
@@ -44,13 +42,12 @@ module _ {lows owners keys name_lens names places : List ℕ} {k : State} {s : L
     };
   }
 
-  module _ {q : Peer} (A : AfterRecipient name_lens names k s to q) where
-    pub shard_nobody : q ≡ Unknown → ShardTested lows owners keys name_lens names places k s lo hi to true
-    shard_nobody e =
-        needless
-        (λ slots lens values counts mail h C b.
-        refused_recipient h lo hi (bytes_of s to) (memory lows owners keys slots lens values name_lens names counts places mail) k C
-        ((recipient_as e A).is k.peers C.N C.names_kept C.says.few b))
+  pub shard_nobody : AfterRecipient name_lens names k s to None → ShardTested lows owners keys name_lens names places k s lo hi to true
+  shard_nobody A =
+      needless
+      (λ slots lens values counts mail h C b.
+      refused_recipient h lo hi (bytes_of s to) (memory lows owners keys slots lens values name_lens names counts places mail) k C
+      (A.is k.peers C.N C.names_kept C.says.few b))
 
   module _ {t : Bool} (M : Movable lows owners keys k lo hi t) where
     pub shard_stays : t ≡ false → ShardTested lows owners keys name_lens names places k s lo hi to true
@@ -59,11 +56,11 @@ module _ {lows owners keys name_lens names places : List ℕ} {k : State} {s : L
         (λ slots lens values counts mail h C b.
         refused_range h lo hi (bytes_of s to) (sym (M.is slots lens values name_lens names counts places mail h C) ∙ e))
 
-    module _ (go : t ≡ true) {q : Peer} (A : AfterRecipient name_lens names k s to q) {i : ℕ} (e : q ≡ Is i) where
+    module _ (go : t ≡ true) {i : ℕ} (A : AfterRecipient name_lens names k s to (Some i)) where
       module _ (slots lens values counts mail : List ℕ) (h : Host)
           (C : Core (memory lows owners keys slots lens values name_lens names counts places mail) k h) where
         to_is : (i < k.hosts) × (C.N i ≡ bytes_of s to) × (i ≡ k.me → ⊥)
-        to_is = (recipient_as e A).is k.peers C.N C.names_kept C.says.few
+        to_is = A.is k.peers C.N C.names_kept C.says.few
 
         moves : refused h lo hi (bytes_of s to) ≡ false
         moves =

@@ -1,4 +1,4 @@
--- What the private functions answer. A caller of the crate need not read this.
+-- What the private functions answer, and what their proofs go by. A caller of the crate need not read this.
 -- Assumes nothing.
 use Rattle.std.specs.Prelude.{◌≡◌, Bool, true, false, List, ℕ, ◌<◌}
 use Rattle.keys.specs.declared.Bound.{Bound}
@@ -25,19 +25,7 @@ pub record ShardTested (lows owners keys name_lens names places : List ℕ) (k :
 
 -- the numbers of a host that hears from peer i
 abbrev pub heard : State → ℕ → State
-heard k i = record {
-  me = k.me;
-  hosts = k.hosts;
-  peers = k.peers;
-  width = k.width;
-  size = k.size;
-  bounds = k.bounds;
-  entries = k.entries;
-  len = k.len;
-  from = i;
-  transfers = k.transfers;
-  turns = k.turns;
-}
+heard k i = record k { from = i }
 
 -- the answer for a Delegate, whatever places there are
 pub record DelegateTested (lows owners keys slots name_lens names : List ℕ) (k : State) (a : Address) (s : List ℕ) (lo hi : Bound) (list : ListView)

@@ -3,124 +3,87 @@
 // Nothing is changed here, and nothing is asked of a caller.
 #![tactic(auto)]
 
-ghost use Rattle.std.specs.Prelude.{◌≡◌};
+ghost use Rattle.std.specs.Prelude.{is_some};
 ghost use Rattle.rooms.specs.Answers.{Tested};
-ghost use Rattle.rooms.specs.Inner.{Vacant, heard, ShardTested, DelegateTested};
+ghost use Rattle.rooms.specs.Inner.{ShardTested, DelegateTested};
 
 use format::Part;
 use hosts::State;
 use keys::Bound;
+use lent::{Index, Map, Strings};
 use limits::ENTRIES_LIMIT;
 use message::{BodyView, ListView};
-use peers::Peer;
-use picking::Vacancy;
 
-// Is there room? The place is a hint, where one was found free; if none was looked for, it says nothing.
-#[derive(Clone, Copy)]
-pub struct Verdict {
-    pub room: bool,
-    pub place: usize,
-}
+// The hint where no place was looked for.
+const NO_HINT: usize = 0;
 
-// Is there room for the message with that body, which stands in the datagram s and came from that address?
+// Is there room for the message with that body, which stands in the datagram s and came from that address? If
+// there is, the answer is a place as a hint, where one was found free; if none was looked for, it says nothing.
 pub fn roomy(
-    lows: &[u64],
-    owners: &[u64],
-    keys: &[u64],
-    slots: &[u64],
-    name_lens: &[u64],
-    names: &[u8],
+    map: Map<&[u64]>,
+    index: Index<&[u64]>,
+    names: Strings<&[u64], &[u8]>,
     places: &[u64],
     k: State,
     from: &[u8],
     s: &[u8],
     body: BodyView,
-) -> Verdict
-    ensures { Tested lows.now owners.now keys.now slots.now name_lens.now names.now places.now k from.now s.now body result.room }
+) -> Option<usize>
+    ensures { Tested map.entry.lows.now map.entry.owners.now index.entry.keys.now index.entry.slots.now names.entry.lens.now names.entry.bytes.now places.now k from.now s.now body (is_some result) }
 {
     match body {
-        BodyView::Get(_) => vacant(places),
+        BodyView::Get(_) => picking::free(places),
         BodyView::Set(_, v) => {
             if sets::too_long(v) {
-                return without_place(true);
+                return Some(NO_HINT);
             }
-            vacant(places)
+            picking::free(places)
         }
-        BodyView::Reply(_, _) => without_place(true),
-        BodyView::Redirect(_, _) => without_place(true),
-        BodyView::Shard(lo, hi, to) => shard(
-            lows, owners, keys, name_lens, names, places, k, s, lo, hi, to,
-        ),
-        BodyView::Delegate(lo, hi, list) => without_place(delegate(
-            lows, owners, keys, slots, name_lens, names, k, from, s, lo, hi, list,
-        )),
-    }
-}
-
-// An answer for which no place was looked for.
-fn without_place(room: bool) -> Verdict
-    ensures { result.room ≡ room }
-{
-    Verdict { room, place: 0 }
-}
-
-// Is there a place for one more message?
-fn vacant(places: &[u64]) -> Verdict
-    ensures { Vacant places.now result.room }
-{
-    match picking::free(places) {
-        Vacancy::At(p) => Verdict {
-            room: true,
-            place: p,
-        },
-        Vacancy::Nowhere => Verdict {
-            room: false,
-            place: 0,
-        },
+        BodyView::Reply(_, _) => Some(NO_HINT),
+        BodyView::Redirect(_, _) => Some(NO_HINT),
+        BodyView::Shard(lo, hi, to) => shard(map, index.keys, names, places, k, s, lo, hi, to),
+        BodyView::Delegate(lo, hi, list) => {
+            if !delegate(map, index, names, k, from, s, lo, hi, list) {
+                return None;
+            }
+            Some(NO_HINT)
+        }
     }
 }
 
 // A Shard that would be refused needs nothing; another needs a place for the Delegate, and room in the map.
 fn shard(
-    lows: &[u64],
-    owners: &[u64],
+    map: Map<&[u64]>,
     keys: &[u64],
-    name_lens: &[u64],
-    names: &[u8],
+    names: Strings<&[u64], &[u8]>,
     places: &[u64],
     k: State,
     s: &[u8],
     lo: Bound,
     hi: Bound,
     to: Part,
-) -> Verdict
-    ensures { ShardTested lows.now owners.now keys.now name_lens.now
-        names.now places.now k s.now lo hi to result.room }
+) -> Option<usize>
+    ensures { ShardTested map.entry.lows.now map.entry.owners.now keys.now names.entry.lens.now
+        names.entry.bytes.now places.now k s.now lo hi to (is_some result) }
 {
-    let Peer::Is(i) = shards::recipient(name_lens, names, k, s, to) else {
-        return without_place(true);
+    let Some(i) = shards::recipient(names, k, s, to) else {
+        return Some(NO_HINT);
     };
-    if !shards::movable(lows, owners, keys, k, lo, hi) {
-        return without_place(true);
+    if !shards::movable(map, keys, k, lo, hi) {
+        return Some(NO_HINT);
     }
-    let free = vacant(places);
-    if !free.room {
-        return free;
+    let place = picking::free(places)?;
+    if !shards::fits(map, k.bounds, lo, hi, i) {
+        return None;
     }
-    Verdict {
-        room: shards::fits(lows, owners, k.bounds, lo, hi, i),
-        place: free.place,
-    }
+    Some(place)
 }
 
 // A Delegate that would be dropped needs nothing; another needs room in the map and in the table.
 fn delegate(
-    lows: &[u64],
-    owners: &[u64],
-    keys: &[u64],
-    slots: &[u64],
-    name_lens: &[u64],
-    names: &[u8],
+    map: Map<&[u64]>,
+    index: Index<&[u64]>,
+    names: Strings<&[u64], &[u8]>,
     k: State,
     from: &[u8],
     s: &[u8],
@@ -128,14 +91,14 @@ fn delegate(
     hi: Bound,
     list: ListView,
 ) -> bool
-    ensures { DelegateTested lows.now owners.now keys.now slots.now
-        name_lens.now names.now k from.now s.now lo hi list result }
+    ensures { DelegateTested map.entry.lows.now map.entry.owners.now index.entry.keys.now index.entry.slots.now
+        names.entry.lens.now names.entry.bytes.now k from.now s.now lo hi list result }
 {
-    let Peer::Is(i) = finding::find(name_lens, names, k.width, k.hosts, from) else {
+    let Some(i) = finding::find(names.lens, names.bytes, k.width, k.hosts, from) else {
         return true;
     };
     let m = list.count as usize;
-    if !delegates::fine(heard(k, i), lo, hi, m) {
+    if !delegates::fine(State { from: i, ..k }, lo, hi, m) {
         return true;
     }
     let mut ks = [0u64; ENTRIES_LIMIT];
@@ -144,27 +107,8 @@ fn delegate(
     if !delegates::columns(s, list.at, m, &mut ks, &mut ats, &mut ls) {
         return true;
     }
-    if !shards::fits(lows, owners, k.bounds, lo, hi, k.me) {
+    if !shards::fits(map, k.bounds, lo, hi, k.me) {
         return false;
     }
-    counts::left(keys, k.entries, lo, hi, &ks, m) <= slots.len()
-}
-
-// The numbers of a host that hears from peer i.
-fn heard(k: State, i: usize) -> State
-    ensures { result ≡ heard k i }
-{
-    State {
-        me: k.me,
-        hosts: k.hosts,
-        peers: k.peers,
-        width: k.width,
-        size: k.size,
-        bounds: k.bounds,
-        entries: k.entries,
-        len: k.len,
-        from: i,
-        transfers: k.transfers,
-        turns: k.turns,
-    }
+    counts::left(index.keys, k.entries, lo, hi, &ks, m) <= index.slots.len()
 }

@@ -21,8 +21,7 @@ use Rattle.hosts.specs.Memory.{Memory, memory}
 use Rattle.hosts.specs.Limits.{Limits, waiting_for, Needs}
 use Rattle.hosts.specs.Keeps.{Core, limits_of, RoomCases, Keeps}
 use Rattle.hosts.specs.Answers.{sends_of as processedSends}
-use Rattle.repeating.specs.declared.Repeated.{Repeated}
-use Rattle.repeating.specs.declared.Repeated.TheVariants.{Places, NoRoom}
+use Rattle.std.specs.Prelude.{Ok}
 use Rattle.repeating.specs.Answers.{AfterRepeat}
 use Rattle.rounds.specs.declared.Turned.TheVariants.{Resent, Waits}
 use Rattle.rounds.specs.declared.Ended.{Ended}
@@ -117,7 +116,7 @@ module _ {counts places : List ℕ} {k : State} {out : List ℕ} where
     refused = λ t. absurd (false≢true t);
   })
 
-  pub due : {out' : List ℕ} {f : State} {n : ℕ} → k.turns + 1 ≡ round → AfterRepeat counts places k out (Places n) out' → f ≡ over_of k
+  pub due : {out' : List ℕ} {f : State} {n : ℕ} → k.turns + 1 ≡ round → AfterRepeat counts places k out (Ok n) out' → f ≡ over_of k
       → AfterAgain counts places k out (record { state = f; outcome = Resent n; place = 0 }) out'
   due {out'} {f} {n} d R q = subst (λ (g : State). AfterAgain counts places k out (record { state = g; outcome = Resent n; place = 0 }) out') (sym q) (record {
     is = λ lows owners keys slots lens values name_lens names mail room h K c a ack.
@@ -132,14 +131,3 @@ module _ {counts places : List ℕ} {k : State} {out : List ℕ} where
     fit = λ c. refl;
     refused = λ t. absurd (false≢true t);
   })
-
-  -- too little was lent
-  pub no_room : {out' : List ℕ} {r : Ended} → AfterRepeat counts places k out NoRoom out' → r ≡ refusal k → AfterAgain counts places k out r out'
-  no_room R q = record {
-    is = λ lows owners keys slots lens values name_lens names mail room h K c a ack. absurd (omega (arith, c, R.is.1));
-    fit = λ c. absurd (omega (arith, c, R.is.1));
-    refused = λ t. (q, R.is.0);
-  }
-
-pub repeat_as : {counts places : List ℕ} {k : State} {out out' : List ℕ} {r s : Repeated} → r ≡ s → AfterRepeat counts places k out r out' → AfterRepeat counts places k out s out'
-repeat_as {counts} {places} {k} {out} {out'} e R = subst (λ (t : Repeated). AfterRepeat counts places k out t out') e R

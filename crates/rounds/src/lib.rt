@@ -8,7 +8,6 @@ ghost use Rattle.rounds.specs.Answers.{AfterAgain, over_of, refusal};
 use hosts::{Processed, State};
 use incoming::Received;
 use limits::RESEND_EVERY;
-use repeating::Repeated;
 
 // The turns until all begins anew.
 const ROUND: u64 = 3 * RESEND_EVERY;
@@ -44,14 +43,13 @@ pub fn again(counts: &[u64], places: &[u64], out: &mut [u64], k: State) -> Ended
             place: 0,
         };
     }
-    let repeated = repeating::retransmit(counts, places, k, out);
-    match repeated {
-        Repeated::Places(n) => Ended {
+    match repeating::retransmit(counts, places, k, out) {
+        Ok(n) => Ended {
             state: over(k),
             outcome: Turned::Resent(n),
             place: 0,
         },
-        Repeated::NoRoom => unfit(k),
+        Err(_) => unfit(k),
     }
 }
 
@@ -71,16 +69,7 @@ pub fn over(k: State) -> State
     ensures { result ≡ over_of k }
 {
     State {
-        me: k.me,
-        hosts: k.hosts,
-        peers: k.peers,
-        width: k.width,
-        size: k.size,
-        bounds: k.bounds,
-        entries: k.entries,
-        len: k.len,
-        from: k.from,
-        transfers: k.transfers,
         turns: (k.turns % ROUND + 1) % ROUND,
+        ..k
     }
 }

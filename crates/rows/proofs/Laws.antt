@@ -4,7 +4,8 @@ use mathlib.Core.Path.{◌≡◌, refl, sym, ap, ◌∙◌, subst}
 use mathlib.Core.Logic.{inl, inr}
 use mathlib.Core.Bool.{Bool, true, false}
 use mathlib.Core.List.{List}
-use mathlib.Core.Option.{Option, none}
+use Rattle.std.specs.Prelude.{Option}
+use mathlib.Core.Option.{Option as Maybe, none}
 use Prim.Native.Nat.{ℕ, ◌-◌, ◌≤◌, ◌<◌}
 use native.Mathlib.Omega.{arith}
 use lib.ListN.{length}
@@ -14,7 +15,6 @@ use Rattle.limits.specs.Limits.{transfers_limit}
 use Rattle.keys.specs.declared.Bound.{Bound}
 use Rattle.format.specs.declared.Part.{Part}
 use Rattle.message.specs.Message.{Address, Body}
-use Rattle.message.specs.declared.ValueView.{ValueView}
 use Rattle.message.specs.declared.ListView.{ListView}
 use Rattle.message.specs.declared.BodyView.{BodyView}
 use Rattle.message.specs.declared.BodyView.TheVariants.{Get, Set, Reply, Redirect, Shard, Delegate}
@@ -44,7 +44,7 @@ use Rattle.rows.specs.Answers.{step_for, AfterBody}
 
 -- ---- a row frees the room
 
-answering_frees : (t : Bool) (h : Host) (a : Address) (b : Body) (o : Outcome) (x : Option Request) → h.room ≡ none → (answering t h a b o x).state.room ≡ none
+answering_frees : (t : Bool) (h : Host) (a : Address) (b : Body) (o : Outcome) (x : Maybe Request) → h.room ≡ none → (answering t h a b o x).state.room ≡ none
 answering_frees true h a b o x e = e
 answering_frees false h a b o x e = e
 
@@ -52,12 +52,12 @@ get_frees : (t : Bool) (h : Host) (l : Letter) (k : ℕ) → (on_get t h l k).st
 get_frees true h l k = answering_frees (numbered h l.from) (free h) l.from _ _ _ refl
 get_frees false h l k = answering_frees (numbered h l.from) (free h) l.from _ _ _ refl
 
-keeping_frees : (t fits : Bool) (h : Host) (l : Letter) (k : ℕ) (v : Option Value) → (keeping t fits h l k v).state.room ≡ none
+keeping_frees : (t fits : Bool) (h : Host) (l : Letter) (k : ℕ) (v : Maybe Value) → (keeping t fits h l k v).state.room ≡ none
 keeping_frees true true h l k v = refl
 keeping_frees true false h l k v = refl
 keeping_frees false fits h l k v = refl
 
-set_frees : (long mine fits : Bool) (h : Host) (l : Letter) (k : ℕ) (v : Option Value) → (on_set long mine fits h l k v).state.room ≡ none
+set_frees : (long mine fits : Bool) (h : Host) (l : Letter) (k : ℕ) (v : Maybe Value) → (on_set long mine fits h l k v).state.room ≡ none
 set_frees true mine fits h l k v = refl
 set_frees false true fits h l k v = keeping_frees (numbered h l.from) fits h l k v
 set_frees false false fits h l k v = answering_frees (numbered h l.from) (free h) l.from _ _ _ refl
@@ -91,25 +91,25 @@ module _ {m m' : Memory} {k : State} {s : List ℕ} {r : Done} where
   }
 
   pub gets : {b : BodyView} {key : ℕ} → b ≡ Get key → AfterGet m k key r m' → AfterBody m k s b r m'
-  gets {b} {key} e A = subst (λ (b : BodyView). AfterBody m k s b r m') (sym e)
-      (by_row (Get key) A.is (λ room h l C I N. N) (λ h l C. refl) (λ h l. get_frees (same (owner_of h.owners key) h.me) h l key))
+  gets {key = key} e A =
+      rw e (by_row (Get key) A.is (λ room h l C I N. N) (λ h l C. refl) (λ h l. get_frees (same (owner_of h.owners key) h.me) h l key))
 
-  pub sets : {b : BodyView} {key : ℕ} {v : ValueView} → b ≡ Set key v → AfterSet m k s key v r m' → AfterBody m k s b r m'
-  sets {b} {key} {v} e A = subst (λ (b : BodyView). AfterBody m k s b r m') (sym e)
-      (by_row (Set key v) A.is (λ room h l C I N. record { inside = I; place = N }) (λ h l C. refl) (λ h l. set_frees (long (value_of s v)) (same (owner_of h.owners key) h.me) (fits_value (length m.slots) h key (value_of s v)) h l key (value_of s v)))
+  pub sets : {b : BodyView} {key : ℕ} {v : Option Part} → b ≡ Set key v → AfterSet m k s key v r m' → AfterBody m k s b r m'
+  sets {key = key} {v = v} e A =
+      rw e (by_row (Set key v) A.is (λ room h l C I N. record { inside = I; place = N }) (λ h l C. refl) (λ h l. set_frees (long (value_of s v)) (same (owner_of h.owners key) h.me) (fits_value (length m.slots) h key (value_of s v)) h l key (value_of s v)))
 
   pub shards : {b : BodyView} {lo hi : Bound} {to : Part} → b ≡ Shard lo hi to → k.transfers < transfers_limit - 2
       → AfterRow m k (Handable m.lows m.owners m.places s lo hi to) (shardRow s lo hi to) r m' → AfterBody m k s b r m'
-  shards {b} {lo} {hi} {to} e q A = subst (λ (b : BodyView). AfterBody m k s b r m') (sym e)
-      (by_row (Shard lo hi to) A
+  shards {lo = lo} {hi = hi} {to = to} e q A =
+      rw e (by_row (Shard lo hi to) A
       (λ room h l C I N. record { few = few m k q h C; inside = I; place = λ f. (N f).0; bounds = λ f. (N f).1 })
       (λ h l C. ap (λ (t : Bool). on_body t true h l (body_of s (Shard lo hi to))) (sym (few m k q h C)))
       (λ h l. shard_frees (refused h lo hi (bytes_of s to)) h lo hi (bytes_of s to)))
 
   pub delegates : {b : BodyView} {lo hi : Bound} {list : ListView} → b ≡ Delegate lo hi list → k.transfers < transfers_limit - 2
       → AfterRow m k (Takeable m.lows m.owners m.slots s lo hi list) (delegateRow s lo hi list) r m' → AfterBody m k s b r m'
-  delegates {b} {lo} {hi} {list} e q A = subst (λ (b : BodyView). AfterBody m k s b r m') (sym e)
-      (by_row (Delegate lo hi list) A
+  delegates {lo = lo} {hi = hi} {list = list} e q A =
+      rw e (by_row (Delegate lo hi list) A
       (λ room h l C I N. record { few = few m k q h C; inside = I; bounds = λ f. (N f).0; entries = λ f. (N f).1 })
       (λ h l C. ap (λ (t : Bool). on_body t true h l (body_of s (Delegate lo hi list))) (sym (few m k q h C)))
       (λ h l. delegate_frees (unfit h l lo hi (listed s list.at list.count)) h l lo hi (listed s list.at list.count)))
@@ -117,33 +117,13 @@ module _ {m m' : Memory} {k : State} {s : List ℕ} {r : Done} where
 module _ {m : Memory} {k : State} {s : List ℕ} {r : Done} where
   -- a Reply or a Redirect is dropped
   dropping : (b : BodyView) → ((h : Host) (l : Letter) → still (free h) dropped ≡ step_for m s b h l) → r ≡ dropped_of k → AfterBody m k s b r m
-  dropping b e q = subst (λ (d : Done). AfterBody m k s b d m) (sym q) (record {
+  dropping b e q = rw q (record {
     is = λ room h l C H I N. subst (Does m (emptied k) Dropped) (e h l) (does_dropped m k h C Dropped refl);
     leaves = λ h l C. inr (ap (λ (t : Step). t.state.room) (sym (e h l)), refl);
   })
 
-  pub replies : {b : BodyView} {key : ℕ} {v : ValueView} → b ≡ Reply key v → r ≡ dropped_of k → AfterBody m k s b r m
-  replies {b} {key} {v} e q = subst (λ (b : BodyView). AfterBody m k s b r m) (sym e) (dropping (Reply key v) (λ h l. refl) q)
+  pub replies : {b : BodyView} {key : ℕ} {v : Option Part} → b ≡ Reply key v → r ≡ dropped_of k → AfterBody m k s b r m
+  replies {key = key} {v = v} e q = rw e (dropping (Reply key v) (λ h l. refl) q)
 
   pub redirects : {b : BodyView} {key : ℕ} {a : Part} → b ≡ Redirect key a → r ≡ dropped_of k → AfterBody m k s b r m
-  redirects {b} {key} {a} e q = subst (λ (b : BodyView). AfterBody m k s b r m) (sym e) (dropping (Redirect key a) (λ h l. refl) q)
-
-  -- a Shard or a Delegate stays while the count is at its limit
-  staying : (b : BodyView) → ((h : Host) (l : Letter) → ltb h.transfers (transfers_limit - 2) ≡ false → still h stuck ≡ step_for m s b h l)
-      → transfers_limit - 2 ≤ k.transfers → r ≡ unchanged k Stuck → AfterBody m k s b r m
-  staying b e n q = subst (λ (d : Done). AfterBody m k s b d m) (sym q) (record {
-    is = λ room h l C H I N. subst (Does m k Stuck) (e h l (many h C)) (record { core = C; outcome = refl; sends = refl });
-    leaves = λ h l C. inl (ap (λ (t : Step). t.state) (sym (e h l (many h C))), refl, refl);
-  })
-    where
-      many : (h : Host) → Core m k h → ltb h.transfers (transfers_limit - 2) ≡ false
-      many h C = le-ltb h.transfers (transfers_limit - 2) (omega (arith, n, C.transfers_is))
-
-  pub shard_stays : {b : BodyView} {lo hi : Bound} {to : Part} → b ≡ Shard lo hi to → transfers_limit - 2 ≤ k.transfers → r ≡ unchanged k Stuck → AfterBody m k s b r m
-  shard_stays {b} {lo} {hi} {to} e n q = subst (λ (b : BodyView). AfterBody m k s b r m) (sym e)
-      (staying (Shard lo hi to) (λ h l f. ap (λ (t : Bool). on_body t true h l (body_of s (Shard lo hi to))) (sym f)) n q)
-
-  pub delegate_stays : {b : BodyView} {lo hi : Bound} {list : ListView} → b ≡ Delegate lo hi list → transfers_limit - 2 ≤ k.transfers → r ≡ unchanged k Stuck
-      → AfterBody m k s b r m
-  delegate_stays {b} {lo} {hi} {list} e n q = subst (λ (b : BodyView). AfterBody m k s b r m) (sym e)
-      (staying (Delegate lo hi list) (λ h l f. ap (λ (t : Bool). on_body t true h l (body_of s (Delegate lo hi list))) (sym f)) n q)
+  redirects {key = key} {a = a} e q = rw e (dropping (Redirect key a) (λ h l. refl) q)

@@ -2,42 +2,58 @@
 // transfers is at its limit.
 #![tactic(auto)]
 
-ghost use Rattle.hosts.specs.Memory.{memory};
+ghost use Rattle.lent.specs.Parts.{IndexStays, MapStays, PostStays, StringsStay};
+ghost use Rattle.lent.specs.Contents.{index_now, map_now, post_now, strings_now, strings_seen};
+ghost use Rattle.hosts.specs.Memory.{memory_of};
 ghost use Rattle.rows.specs.Answers.{AfterBody};
 
 use hosts::{Done, Processed, State};
+use lent::{Index, Map, Post, Strings};
 use message::BodyView;
 
 // The row of the table for that body, which stands in the datagram s.
 pub fn row(
-    lows: &mut [u64],
-    owners: &mut [u64],
-    keys: &mut [u64],
-    slots: &mut [u64],
-    lens: &mut [u64],
-    values: &mut [u8],
-    name_lens: &[u64],
-    names: &[u8],
-    counts: &mut [u64],
-    places: &mut [u64],
+    map: &mut Map<&mut [u64]>,
+    index: &mut Index<&mut [u64]>,
+    values: &mut Strings<&mut [u64], &mut [u8]>,
+    names: Strings<&[u64], &[u8]>,
+    post: &mut Post<&mut [u64]>,
     mail: &mut [u8],
     k: State,
     s: &[u8],
     body: BodyView,
     hint: usize,
 ) -> Done
-    ensures { AfterBody (memory lows.old owners.old keys.old slots.old lens.old values.old name_lens.now names.now counts.old places.old mail.old)
+    ensures stays { MapStays map.old map.new × IndexStays index.old index.new × StringsStay values.old values.new × PostStays post.old post.new }
+    ensures is { AfterBody
+        (memory_of (map_now map.old) (index_now index.old) (strings_now values.old) (strings_seen names.entry) (post_now post.old) mail.old)
         k s.now body result
-        (memory lows.new owners.new keys.new slots.new lens.new values.new name_lens.now names.now counts.new places.new mail.new) }
+        (memory_of (map_now map.new) (index_now index.new) (strings_now values.new) (strings_seen names.entry) (post_now post.new) mail.new) }
 {
     match body {
         BodyView::Get(key) => getting::get(
-            lows, owners, keys, slots, lens, values, name_lens, names, counts, places, mail, k,
-            key, hint,
+            map.view(),
+            index.view(),
+            values.view(),
+            names,
+            post,
+            mail,
+            k,
+            key,
+            hint,
         ),
         BodyView::Set(key, v) => setting::set(
-            lows, owners, keys, slots, lens, values, name_lens, names, counts, places, mail, k, s,
-            key, v, hint,
+            map.view(),
+            index,
+            values,
+            names,
+            post,
+            mail,
+            k,
+            s,
+            key,
+            v,
+            hint,
         ),
         BodyView::Reply(_, _) => hosts::dropped(k),
         BodyView::Redirect(_, _) => hosts::dropped(k),
@@ -46,15 +62,25 @@ pub fn row(
                 return staying::staying(k, Processed::Stuck);
             }
             handing::shard(
-                lows, owners, keys, slots, lens, values, name_lens, names, counts, places, mail, k,
-                s, lo, hi, to, hint,
+                map,
+                index,
+                values.view(),
+                names,
+                post,
+                mail,
+                k,
+                s,
+                lo,
+                hi,
+                to,
+                hint,
             )
         }
         BodyView::Delegate(lo, hi, list) => {
             if staying::many(k) {
                 return staying::staying(k, Processed::Stuck);
             }
-            accepting::delegate(lows, owners, keys, slots, lens, values, k, s, lo, hi, list)
+            accepting::delegate(map, index, values, k, s, lo, hi, list)
         }
     }
 }

@@ -1,2 +1,2 @@
--- `Spots` carries what `seek` answered to the answer that was matched, for the crates that rest on this one.
-pub mod Spots
+-- `Front` is the first n of a column as a list of its own, for this crate's proofs.
+mod Front

@@ -1,4 +1,4 @@
-// Searches in a column of `columns` that rises strictly, by halving. What each function answers stands in
+// Searches in a column of `columns` that rises strictly, by the library's halving. What each function answers stands in
 // specs/Search.antt; on a column that does not rise the answer is a place all the same.
 #![tactic(auto)]
 
@@ -7,31 +7,11 @@ ghost use Rattle.searches.specs.Search.{Before, Sought};
 
 use keys::Bound;
 
-// Where a key stands in a column that rises, or before which place it belongs.
-#[derive(Clone, Copy)]
-pub enum Spot {
-    Old(usize),
-    New(usize),
-}
-
 // How many of the first n lie at or below the key, found by halving: right if they rise strictly.
 pub fn upto(column: &[u64], n: usize, key: u64) -> usize
     ensures { Upto column.now n key result }
 {
-    let mut lo: usize = 0;
-    let mut hi = n;
-    if column.len() < n {
-        hi = column.len();
-    }
-    while lo < hi {
-        let mid = lo + (hi - lo) / 2;
-        if column[mid] <= key {
-            lo = mid + 1;
-        } else {
-            hi = mid;
-        }
-    }
-    lo
+    column[..n.min(column.len())].partition_point(|x| *x <= key)
 }
 
 // How many of the first n lie below the bound: right if they rise strictly. End lies above all.
@@ -39,26 +19,14 @@ pub fn before(column: &[u64], n: usize, bound: Bound) -> usize
     ensures { Before column.now n bound result }
 {
     match bound {
-        Bound::Key(k) => {
-            if k == 0 {
-                return 0;
-            }
-            upto(column, n, k - 1)
-        }
+        Bound::Key(k) => column[..n.min(column.len())].partition_point(|x| *x < k),
         Bound::End => n,
     }
 }
 
-// Where the key stands among the first n, or belongs: right if they rise strictly.
-pub fn seek(column: &[u64], n: usize, key: u64) -> Spot
+// Where the key stands among the first n, or else where it belongs: right if they rise strictly.
+pub fn seek(column: &[u64], n: usize, key: u64) -> Result<usize, usize>
     ensures { Sought column.now n key result }
 {
-    let p = upto(column, n, key);
-    if p == 0 {
-        return Spot::New(p);
-    }
-    if column[p - 1] != key {
-        return Spot::New(p);
-    }
-    Spot::Old(p - 1)
+    column[..n.min(column.len())].binary_search(&key)
 }

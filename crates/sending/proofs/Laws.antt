@@ -12,29 +12,15 @@ use Rattle.memory.specs.Bytes.{part, placed}
 use Rattle.message.specs.Message.{Address, Body, Datagram, message}
 use Rattle.message.specs.Table.{written, Valid}
 use Rattle.message.specs.Answers.{AfterWrite}
-use Rattle.message.specs.declared.Written.{Written}
-use Rattle.message.specs.declared.Written.TheVariants.{Bytes, NoRoom}
+use Rattle.message.specs.declared.Refused.{Refused}
+use Rattle.message.specs.declared.Refused.TheVariants.{NoRoom, Invalid}
+use Rattle.std.specs.Prelude.{Some, None, Ok, Err}
 use Rattle.peers.specs.Names.{Keeps as KeepsNames, AfterName}
-use Rattle.peers.specs.declared.Where.{Where}
-use Rattle.peers.specs.declared.Where.TheVariants.{At as Name, Missing as Nameless}
 use Rattle.delivery.specs.Post.{Post, posted}
 use Rattle.delivery.specs.Memory.{Keeps as KeepsPost, Standing}
 use Rattle.posting.specs.Answers.{AfterPost}
 use Rattle.posting.proofs.Laws.{mid_placed, place_fits}
 use Rattle.sending.specs.Answers.{AfterSlot, Given, AfterSend}
-use Rattle.sending.specs.declared.Slot.{Slot}
-use Rattle.sending.specs.declared.Slot.TheVariants.{Between, Missing}
-
--- ---- what a function says of its answer holds of an answer that is equal to it
-
-pub name_as : {lens names : List ℕ} {width i : ℕ} {r s : Where} → r ≡ s → AfterName lens names width i r → AfterName lens names width i s
-name_as {lens} {names} {width} {i} e h = subst (AfterName lens names width i) e h
-
-pub slot_as : {mail size p : ℕ} {r s : Slot} → r ≡ s → AfterSlot mail size p r → AfterSlot mail size p s
-slot_as {mail} {size} {p} e h = subst (AfterSlot mail size p) e h
-
-pub write_as : {m : Datagram} {d d' : List ℕ} {r s : Written} → r ≡ s → AfterWrite m d r d' → AfterWrite m d s d'
-write_as {m} {d} {d'} e h = subst (λ (r : Written). AfterWrite m d r d') e h
 
 -- ---- the place
 
@@ -42,7 +28,7 @@ write_as {m} {d} {d'} e h = subst (λ (r : Written). AfterWrite m d r d') e h
 fits_front : (d bytes : List ℕ) → length (placed d 0 bytes) ≡ length d → length bytes ≤ length d
 fits_front d bytes e = omega (arith, e, length-append bytes (drop (0 + length bytes) d))
 
-module _ (mail : List ℕ) (size p from to : ℕ) (S : AfterSlot (length mail) size p (Between from to)) where
+module _ (mail : List ℕ) (size p from to : ℕ) (S : AfterSlot (length mail) size p (Some (from, to))) where
   size_is : length (mid_of from (to - from) mail) ≡ size
   size_is = mid_len from to mail S.is.2 ∙ omega (arith, S.is.1)
 
@@ -67,45 +53,47 @@ module _ {lens names : List ℕ} {width : ℕ} {counts places mail : List ℕ} {
   refused e why = record { sent = λ f. absurd (false≢true f); unsent = λ f. (refl, refl, e, why) }
 
   -- there is no such peer
-  pub no_name : AfterName lens names width peer Nameless → AfterSend lens names width counts places mail size peer p x Q b false counts places mail
+  pub no_name : AfterName lens names width peer None → AfterSend lens names width counts places mail size peer p x Q b false counts places mail
   no_name A = refused refl (λ n N P G v l. A.is n N G.names_kept G.peer_in)
 
   -- there is no such peer as the body names
-  pub no_other : {k : ℕ} → AfterName lens names width k Nameless → ((n : ℕ) → Q n → k < n)
+  pub no_other : {k : ℕ} → AfterName lens names width k None → ((n : ℕ) → Q n → k < n)
       → AfterSend lens names width counts places mail size peer p x Q b false counts places mail
   no_other A known = refused refl (λ n N P G v l. A.is n N G.names_kept (known n G.asked))
 
   -- there is no such place
-  pub no_place : AfterSlot (length mail) size p Missing → AfterSend lens names width counts places mail size peer p x Q b false counts places mail
+  pub no_place : AfterSlot (length mail) size p None → AfterSend lens names width counts places mail size peer p x Q b false counts places mail
   no_place S =
       refused refl (λ n N P G v l.
       let K = G.post_kept in
       absurd (omega (arith, S.is K.wide, place_fits p _ size (length mail) G.place_open.within K.fits_mail)))
 
   -- the message is written, to the peer's address and with the body that is to be sent, into the place's bytes
-  module _ {a z from to : ℕ} {body : Body} (A : AfterName lens names width peer (Name a z)) (S : AfterSlot (length mail) size p (Between from to))
+  module _ {a z from to : ℕ} {body : Body} (A : AfterName lens names width peer (Some (a, z))) (S : AfterSlot (length mail) size p (Some (from, to)))
       (same : (n : ℕ) (N : ℕ → Address) → KeepsNames lens names width n N → Q n → body ≡ b N) where
     same_message : {n : ℕ} {N : ℕ → Address} {P : Post} → Given lens names width counts places mail size peer p x Q n N P
         → message x (part names a (z - a)) body ≡ message x (N peer) (b N)
     same_message {n} {N} G = ap₂ (message x) (A.is.2 n N G.names_kept G.peer_in) (same n N G.names_kept G.asked)
 
-    -- it is too long
-    pub no_room : {lent : List ℕ} → AfterWrite (message x (part names a (z - a)) body) (mid_of from (to - from) mail) NoRoom lent
+    -- it is too long, or may not be written
+    pub unwritten_if : (e : Refused) {lent : List ℕ} → lent ≡ mid_of from (to - from) mail
+        → ((n : ℕ) → Q n → AfterWrite (message x (part names a (z - a)) body) (mid_of from (to - from) mail) (Err e) lent)
         → AfterSend lens names width counts places mail size peer p x Q b false counts places (put_mid from (to - from) mail lent)
-    no_room w =
-        refused (ap (put_mid from (to - from) mail) w.is.0 ∙ put_same from (to - from) mail) (λ n N P G v l.
-        absurd (omega (arith, w.is.1, l, size_is mail size p from to S, ap (λ (m : Datagram). length (written m)) (same_message G))))
-
-    -- it may not be written
-    pub no_message : {lent : List ℕ} → lent ≡ mid_of from (to - from) mail → ((n : ℕ) → Q n → Valid (message x (part names a (z - a)) body) → ⊥)
-        → AfterSend lens names width counts places mail size peer p x Q b false counts places (put_mid from (to - from) mail lent)
-    no_message e why =
+    unwritten_if NoRoom e w =
         refused (ap (put_mid from (to - from) mail) e ∙ put_same from (to - from) mail) (λ n N P G v l.
-        why n G.asked (subst Valid (sym (same_message G)) v))
+        absurd (omega (arith, (w n G.asked).is.1, l, size_is mail size p from to S, ap (λ (m : Datagram). length (written m)) (same_message G))))
+    unwritten_if Invalid e w =
+        refused (ap (put_mid from (to - from) mail) e ∙ put_same from (to - from) mail) (λ n N P G v l.
+        (w n G.asked).is.1 (subst Valid (sym (same_message G)) v))
+
+    pub unwritten : (e : Refused) {lent : List ℕ} → AfterWrite (message x (part names a (z - a)) body) (mid_of from (to - from) mail) (Err e) lent
+        → AfterSend lens names width counts places mail size peer p x Q b false counts places (put_mid from (to - from) mail lent)
+    unwritten NoRoom w = unwritten_if NoRoom w.is.0 (λ n q. w)
+    unwritten Invalid w = unwritten_if Invalid w.is.0 (λ n q. w)
 
     -- it is written, and posted
     pub sent : {lent counts' places' : List ℕ} {len : ℕ} → length lent ≡ length (mid_of from (to - from) mail)
-        → AfterWrite (message x (part names a (z - a)) body) (mid_of from (to - from) mail) (Bytes len) lent → AfterPost counts places peer p x len counts' places'
+        → AfterWrite (message x (part names a (z - a)) body) (mid_of from (to - from) mail) (Ok len) lent → AfterPost counts places peer p x len counts' places'
         → AfterSend lens names width counts places mail size peer p x Q b true counts' places' (put_mid from (to - from) mail lent)
     sent {lent} {counts'} {places'} long w posts =
         let bytes = written (message x (part names a (z - a)) body) in

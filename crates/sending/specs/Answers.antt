@@ -1,21 +1,19 @@
 -- What sending a message answers: it is written into a free place and waits there, or it may not be written or does not fit the place. A body may
 -- name peers, so it is a function of their addresses.
 -- Assumes nothing.
-use Rattle.std.specs.Prelude.{◌≡◌, Bool, true, false, List, ℕ, ◌+◌, ◌*◌, ◌≤◌, ◌<◌, length}
+use Rattle.std.specs.Prelude.{◌≡◌, Bool, true, false, List, ℕ, ◌+◌, ◌*◌, ◌≤◌, ◌<◌, length, Option, Some, None}
 use Rattle.message.specs.Message.{Address, Body, message}
 use Rattle.message.specs.Table.{written, Valid}
 use Rattle.peers.specs.Names.{Keeps as KeepsNames}
 use Rattle.delivery.specs.Post.{Post, next, posted}
 use Rattle.delivery.specs.Memory.{Keeps as KeepsPost, Open, Standing}
-use Rattle.sending.specs.declared.Slot.{Slot}
-use Rattle.sending.specs.declared.Slot.TheVariants.{Between, Missing}
 
 -- place p has the bytes of the mail from one up to another, or there are not so many
-abbrev pub SlotCases : Slot → (mail size p : ℕ) → Type 0
-SlotCases (Between from to) mail size p = (from ≡ p * size) × (to ≡ from + size) × (to ≤ mail)
-SlotCases Missing mail size p = 0 < size → mail < p * size + size
+abbrev pub SlotCases : Option (ℕ × ℕ) → (mail size p : ℕ) → Type 0
+SlotCases (Some (from, to)) mail size p = (from ≡ p * size) × (to ≡ from + size) × (to ≤ mail)
+SlotCases None mail size p = 0 < size → mail < p * size + size
 
-pub record AfterSlot (mail size p : ℕ) (r : Slot) : Type 0 where
+pub record AfterSlot (mail size p : ℕ) (r : Option (ℕ × ℕ)) : Type 0 where
   pub is : SlotCases r mail size p
 
 -- what is given to a function that sends: a peer, a free place for the message, and its number. `Q n` is what the body asks of n peers

@@ -5,23 +5,13 @@
 
 ghost use Rattle.sending.specs.Answers.{AfterSlot};
 
-// The bytes of a place, from one up to another.
-#[derive(Clone, Copy)]
-pub enum Slot {
-    Between(usize, usize),
-    Missing,
-}
-
-// Where in so many bytes of mail does place p lie?
-pub fn lies(mail: usize, size: usize, p: usize) -> Slot
+// Where in so many bytes of mail does place p lie, from one byte up to another? None: there are not so many.
+pub fn lies(mail: usize, size: usize, p: usize) -> Option<(usize, usize)>
     ensures { AfterSlot mail size p result }
 {
-    if size == 0 {
-        return Slot::Missing;
-    }
-    if mail / size <= p {
-        return Slot::Missing;
+    if size == 0 || mail / size <= p {
+        return None;
     }
     let from = p * size;
-    Slot::Between(from, from + size)
+    Some((from, from + size))
 }

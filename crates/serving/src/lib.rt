@@ -29,53 +29,27 @@ pub fn serves(
 ) -> bool
     ensures { Tells (Lengths lows owners keys slots lens values name_lens names counts places mail room width size n) result }
 {
-    if !datagrams_fit(width, size, room) {
-        return false;
-    }
-    if lows == 0 {
-        return false;
-    }
-    if owners == 0 {
-        return false;
-    }
-    if name_lens < n {
-        return false;
-    }
-    if names / width < n {
-        return false;
-    }
-    if counts / WORDS < n {
-        return false;
-    }
-    if places < WORDS {
-        return false;
-    }
-    if mail / size < places / WORDS {
-        return false;
-    }
-    records::fits(keys, slots, lens, values, 0)
+    datagrams_fit(width, size, room)
+        && lows > 0
+        && owners > 0
+        && name_lens >= n
+        && names / width >= n
+        && counts / WORDS >= n
+        && places >= WORDS
+        && mail / size >= places / WORDS
+        && records::fits(keys, slots, lens, values, 0)
 }
 
 // Does every message that a host sends fit a datagram of that size, and a datagram the room?
 fn datagrams_fit(width: usize, size: usize, room: usize) -> bool
     ensures { Tells (Datagrams width size room) result }
 {
-    if width == 0 {
-        return false;
-    }
-    if BYTES_MAX <= width {
-        return false;
-    }
-    if size < DELEGATE_MAX + width {
-        return false;
-    }
-    if size < REDIRECT_MAX + width + width {
-        return false;
-    }
-    if size < DATAGRAM_MIN {
-        return false;
-    }
-    size <= room
+    width > 0
+        && width < BYTES_MAX
+        && size >= DELEGATE_MAX + width
+        && size >= REDIRECT_MAX + width + width
+        && size >= DATAGRAM_MIN
+        && size <= room
 }
 
 // The numbers of a host that has only started.

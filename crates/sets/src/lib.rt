@@ -4,20 +4,17 @@
 
 ghost use Rattle.sets.specs.Answers.{IsSound, TooLong};
 
+use format::Part;
 use limits::VALUE_MAX;
-use message::ValueView;
 
 // Does the value stand in the datagram, and is it not too long?
-pub fn sound(s: &[u8], v: ValueView) -> bool
+pub fn sound(s: &[u8], v: Option<Part>) -> bool
     ensures { IsSound s.now v result }
 {
     match v {
-        ValueView::None => true,
-        ValueView::At(part) => {
-            if s.len() < part.at {
-                return false;
-            }
-            if s.len() - part.at < part.len {
+        None => true,
+        Some(part) => {
+            if s.len() < part.at || s.len() - part.at < part.len {
                 return false;
             }
             part.len <= VALUE_MAX
@@ -26,11 +23,11 @@ pub fn sound(s: &[u8], v: ValueView) -> bool
 }
 
 // Is the value longer than a table keeps?
-pub fn too_long(v: ValueView) -> bool
+pub fn too_long(v: Option<Part>) -> bool
     ensures { TooLong v result }
 {
     match v {
-        ValueView::None => false,
-        ValueView::At(part) => VALUE_MAX < part.len,
+        None => false,
+        Some(part) => VALUE_MAX < part.len,
     }
 }

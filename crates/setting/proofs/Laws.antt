@@ -1,24 +1,24 @@
 -- A Set is the definition's step: dropped, referred to the owner, or carried out.
 -- Assumes nothing.
-use mathlib.Core.Path.{◌≡◌, refl, sym, ap, ◌∙◌, subst}
+use mathlib.Core.Path.{◌≡◌, refl}
 use mathlib.Core.Bool.{Bool, true, false}
 use mathlib.Core.List.{List}
-use mathlib.Core.Option.{Option, some}
-use Prim.Native.Nat.{ℕ, ◌+◌, ◌-◌, ◌≤◌}
+use Rattle.std.specs.Prelude.{Option, Some, Ok, Err}
+use mathlib.Core.Option.{Option as Maybe, some}
+use Prim.Native.Nat.{ℕ, ◌+◌, ◌-◌}
 use lib.ListN.{length, take, drop}
 use Rattle.memory.proofs.Parts.{part_taken}
 use Rattle.format.specs.declared.Part.{Part}
-use Rattle.message.specs.declared.ValueView.{ValueView}
-use Rattle.message.specs.declared.ValueView.TheVariants.{At}
-use Rattle.message.specs.View.{value_of, ValueIn}
+use Rattle.message.specs.View.{value_of}
 use Rattle.delegation.specs.Map.{Owner}
 use Rattle.decoding.specs.Decode.{same}
-use Rattle.picking.specs.declared.Picked.TheVariants.{Place, NoNumber, NoPlace}
+use Rattle.picking.specs.declared.Refused.{Refused}
+use Rattle.picking.specs.declared.Refused.TheVariants.{NoNumber, NoPlace}
 use Rattle.picking.specs.Answers.{AfterPick}
 use Rattle.protocol.specs.Owners.{owner_of}
 use Rattle.protocol.specs.Records.{Value}
 use Rattle.protocol.specs.State.{Host, Letter}
-use Rattle.protocol.specs.Process.{on_set, keeping}
+use Rattle.protocol.specs.Process.{on_set}
 use Rattle.hosts.specs.declared.State.{State}
 use Rattle.hosts.specs.declared.Done.{Done}
 use Rattle.hosts.specs.declared.Processed.TheVariants.{Dropped, Unnumbered}
@@ -36,28 +36,25 @@ use Rattle.setting.specs.Answers.{AfterSet, AfterSettle}
 
 -- ---- a value that is not too long, from a place and a number that were picked
 
-module _ {m : Memory} {k : State} {s : List ℕ} {key : ℕ} {v : ValueView} {p x : ℕ} where
+module _ {m : Memory} {k : State} {s : List ℕ} {key : ℕ} {v : Option Part} {p x : ℕ} where
   -- the key is another host's
   pub refers : {counts places mail : List ℕ} {owner : ℕ} {r : Done} → Sound s v → Owner m.lows m.owners k.bounds key owner → (owner ≡ k.me → ⊥)
       → AfterRefer m.name_lens m.names m.counts m.places m.mail k p x key owner r counts places mail
       → AfterSettle m k s key v p x r (mailed m counts places mail)
-  refers {counts} {places} {mail} {owner} {r} G O ne R = record {
-    is = record {
-      freed = (R.is m.lows m.owners m.keys m.slots m.lens m.values).freed;
-      is = λ h l C H P.
-          subst (λ (t : Bool). Does (mailed m counts places mail) r.state r.outcome
-          (on_set t (same (owner_of h.owners key) h.me) (fits_value (length m.slots) h key (value_of s v)) h l key (value_of s v))) (sym G.short)
-          (subst (λ (t : Bool). Does (mailed m counts places mail) r.state r.outcome
-          (on_set false t (fits_value (length m.slots) h key (value_of s v)) h l key (value_of s v))) (sym (other m k key owner O ne h C))
-          ((R.is m.lows m.owners m.keys m.slots m.lens m.values).is h l C H (record { picked = P; owner_is = λ D. O.is D.f D.map_kept })));
-    };
-  }
+  refers {owner = owner} G O ne R =
+      let Z = R.is m.lows m.owners m.keys m.slots m.lens m.values in
+      record {
+        is = record {
+          freed = Z.freed;
+          is = λ h l C H P. rw (G.short, other m k key owner O ne h C) (Z.is h l C H (record { picked = P; owner_is = λ D. O.is D.f D.map_kept }));
+        };
+      }
 
   -- the key is the host's own
-  pub sets : {owner : ℕ} {r : Done} {m' : Memory} {w : Option Value} → Sound s v → Owner m.lows m.owners k.bounds key owner → owner ≡ k.me
+  pub sets : {owner : ℕ} {r : Done} {m' : Memory} {w : Maybe Value} → Sound s v → Owner m.lows m.owners k.bounds key owner → owner ≡ k.me
       → w ≡ value_of s v → AfterStore m k key w p x r m' → AfterSettle m k s key v p x r m'
-  sets {owner} {r} {m'} {w} G O e q S =
-      let A : AfterStore m k key (value_of s v) p x r m' = subst (λ (u : Option Value). AfterStore m k key u p x r m') q S in
+  sets {owner = owner} G O e q S =
+      let A = rw q at S in
       record {
         is = record {
           freed = A.is.freed;
@@ -67,20 +64,13 @@ module _ {m : Memory} {k : State} {s : List ℕ} {key : ℕ} {v : ValueView} {p 
 
 -- ---- the Set
 
-module _ {m : Memory} {k : State} {s : List ℕ} {key : ℕ} {v : ValueView} where
+module _ {m : Memory} {k : State} {s : List ℕ} {key : ℕ} {v : Option Part} where
   -- a value that is too long is dropped
   pub too_long : {r : Done} → IsSound s v false → r ≡ dropped_of k → AfterSet m k s key v r m
-  too_long {r} I e = subst (λ (d : Done). AfterSet m k s key v d m) (sym e) (record {
-    is = record {
-      freed = refl;
-      is = λ h l C H Q.
-          subst (λ (t : Bool). Does m (emptied k) Dropped
-          (on_set t (same (owner_of h.owners key) h.me) (fits_value (length m.slots) h key (value_of s v)) h l key (value_of s v))) (sym (I.other refl Q.inside))
-          (does_dropped m k h C Dropped refl);
-    };
-  })
+  too_long I e =
+      rw e (record { is = record { freed = refl; is = λ h l C H Q. rw (I.other refl Q.inside) (does_dropped m k h C Dropped refl) } })
 
-  pub picks : {m' : Memory} {p x : ℕ} {r : Done} → AfterPick m.counts m.places k.from (Place p x) → AfterSettle m k s key v p x r m' → AfterSet m k s key v r m'
+  pub picks : {m' : Memory} {p x : ℕ} {r : Done} → AfterPick m.counts m.places k.from (Ok (p, x)) → AfterSettle m k s key v p x r m' → AfterSet m k s key v r m'
   picks A R = record {
     is = record {
       freed = R.is.freed;
@@ -89,39 +79,30 @@ module _ {m : Memory} {k : State} {s : List ℕ} {key : ℕ} {v : ValueView} whe
     };
   }
 
-  pub runs_out : {r : Done} → Sound s v → AfterPick m.counts m.places k.from NoNumber → r ≡ sent_or k false Dropped → AfterSet m k s key v r m
-  runs_out {r} G A e = subst (λ (d : Done). AfterSet m k s key v d m) (sym e) (record {
-    is = record {
-      freed = refl;
-      is = λ h l C H Q.
-          subst (λ (t : Bool). Does m (emptied k) Unnumbered
-          (on_set t (same (owner_of h.owners key) h.me) (fits_value (length m.slots) h key (value_of s v)) h l key (value_of s v))) (sym G.short)
-          (either h l C H (same (owner_of h.owners key) h.me));
-    };
-  })
+  runs_out : {r : Done} → Sound s v → AfterPick m.counts m.places k.from (Err NoNumber) → r ≡ sent_or k false Dropped → AfterSet m k s key v r m
+  runs_out G A e =
+      rw e (record { is = record { freed = refl; is = λ h l C H Q. rw G.short (either h l C H (same (owner_of h.owners key) h.me)) } })
     where
       either : (h : Host) (l : Letter) (C : Core m k h) → Heard m k l → (t : Bool)
           → Does m (emptied k) Unnumbered (on_set false t (fits_value (length m.slots) h key (value_of s v)) h l key (value_of s v))
       either h l C H true =
-          subst (λ (t : Bool). Does m (emptied k) Unnumbered (keeping t (fits_value (length m.slots) h key (value_of s v)) h l key (value_of s v)))
-          (sym (no_number m k h C k.from H.from_in l.from H.from_is (A.is m.mail k.size k.peers C.P C.post_kept H.from_in)))
-          (does_dropped m k h C Unnumbered refl)
+          rw (no_number m k h C k.from H.from_in l.from H.from_is (A.is m.mail k.size k.peers C.P C.post_kept H.from_in)) (does_dropped m k h C Unnumbered refl)
       either h l C H false =
           unanswered m k h C k.from H.from_in l.from H.from_is (A.is m.mail k.size k.peers C.P C.post_kept H.from_in) _ _ _
 
-  pub no_place : {r : Done} → Sound s v → AfterPick m.counts m.places k.from NoPlace → r ≡ sent_or k false Dropped → AfterSet m k s key v r m
-  no_place {r} G A e = subst (λ (d : Done). AfterSet m k s key v d m) (sym e) (record {
-    is = record { freed = refl; is = λ h l C H Q. absurd (all_taken m k h C A.is.0 (Q.place G.short)) };
-  })
+  no_place : {r : Done} → Sound s v → AfterPick m.counts m.places k.from (Err NoPlace) → r ≡ sent_or k false Dropped → AfterSet m k s key v r m
+  no_place G A e =
+      rw e (record { is = record { freed = refl; is = λ h l C H Q. absurd (all_taken m k h C A.is.0 (Q.place G.short)) } })
 
--- a sound value's bytes lie within the datagram
-pub sound_in : {s : List ℕ} {v : ValueView} {part : Part} → v ≡ At part → Sound s v → part.at + part.len ≤ length s
-sound_in {s} {v} {part} e G = subst (ValueIn s) e G.inside
+  -- there is no number or no place for the answer
+  pub refused : {r : Done} → Sound s v → (e : Refused) → AfterPick m.counts m.places k.from (Err e) → r ≡ sent_or k false Dropped → AfterSet m k s key v r m
+  refused G NoNumber A e = runs_out G A e
+  refused G NoPlace A e = no_place G A e
 
--- .. and what code takes of it is the value
-pub value_taken : (s : List ℕ) {v : ValueView} {part : Part} → v ≡ At part
+-- what code takes of the datagram is the value
+pub value_taken : (s : List ℕ) {v : Option Part} {part : Part} → v ≡ Some part
     → some (take (part.at + part.len - part.at) (drop part.at s)) ≡ value_of s v
-value_taken s {v} {part} e = ap some (part_taken s part.at part.len) ∙ ap (value_of s) (sym e)
+value_taken s {part = part} e = rw (e, part_taken s part.at part.len) refl
 
-pub sound_as : {s : List ℕ} {v : ValueView} {r t : Bool} → r ≡ t → IsSound s v r → IsSound s v t
-sound_as {s} {v} e I = subst (IsSound s v) e I
+pub sound_as : {s : List ℕ} {v : Option Part} {r t : Bool} → r ≡ t → IsSound s v r → IsSound s v t
+sound_as e I = rw e at I

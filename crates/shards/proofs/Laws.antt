@@ -1,6 +1,6 @@
 -- Who gets the range, and whether it can be moved: one law for each answer of the code.
 -- Assumes nothing.
-use mathlib.Core.Path.{◌≡◌, refl, sym, ap, ◌∙◌, subst}
+use mathlib.Core.Path.{◌≡◌, refl, sym, ap, ◌∙◌}
 use mathlib.Core.Bool.{Bool, true, false}
 use mathlib.Core.List.{List}
 use Prim.Native.Nat.{ℕ, ◌≤◌, ◌+◌, ◌-◌}
@@ -26,9 +26,7 @@ use Rattle.hosts.proofs.Tables.{size_within}
 use Rattle.memory.specs.Bytes.{part}
 use Rattle.memory.proofs.Parts.{part_taken}
 use Rattle.format.specs.declared.Part.{Part}
-use Rattle.peers.specs.declared.Peer.{Peer}
-use Rattle.peers.specs.declared.Peer.TheVariants.{Is, Unknown}
-use Rattle.hosts.proofs.Arrivals.{find_as}
+use Rattle.std.specs.Prelude.{Some, None}
 use Rattle.shards.specs.Answers.{AfterRecipient, Movable}
 
 -- fewer addresses are kept too
@@ -45,27 +43,23 @@ keeps_fewer {w = w} {n = n} {hosts = hosts} K q = record {
 -- ---- the recipient
 
 module _ {lens names : List ℕ} {k : State} {s : List ℕ} {to : Part} where
-  module _ {r : Peer} (A : AfterFind lens names k.width k.hosts (part s to.at (to.at + to.len - to.at)) r) where
-    pub nobody : r ≡ Unknown → AfterRecipient lens names k s to Unknown
-    nobody e = record {
-      is = λ n N K q inside i p z.
-          absurd ((find_as e A).is N (keeps_fewer K q) i p (z ∙ sym (part_taken s to.at to.len)));
-    }
+  pub nobody : AfterFind lens names k.width k.hosts (part s to.at (to.at + to.len - to.at)) None → AfterRecipient lens names k s to None
+  nobody A = record {
+    is = λ n N K q inside i p z. absurd (A.is N (keeps_fewer K q) i p (z ∙ sym (part_taken s to.at to.len)));
+  }
 
-    pub myself : {i : ℕ} → r ≡ Is i → i ≡ k.me → AfterRecipient lens names k s to Unknown
-    myself {i} e me = record {
+  module _ {i : ℕ} (A : AfterFind lens names k.width k.hosts (part s to.at (to.at + to.len - to.at)) (Some i)) where
+    pub myself : i ≡ k.me → AfterRecipient lens names k s to None
+    myself me = record {
       is = λ n N K q inside j p z.
-          let w = (find_as e A).is N (keeps_fewer K q) in
+          let w = A.is N (keeps_fewer K q) in
           (keeps_fewer K q).distinct j i p w.0 (z ∙ sym (part_taken s to.at to.len) ∙ sym w.1) ∙ me;
     }
 
-    pub another : {i : ℕ} → r ≡ Is i → (i ≡ k.me → ⊥) → AfterRecipient lens names k s to (Is i)
-    another e me = record {
-      is = λ n N K q. let w = (find_as e A).is N (keeps_fewer K q) in (w.0, w.1 ∙ part_taken s to.at to.len, me);
+    pub another : (i ≡ k.me → ⊥) → AfterRecipient lens names k s to (Some i)
+    another me = record {
+      is = λ n N K q. let w = A.is N (keeps_fewer K q) in (w.0, w.1 ∙ part_taken s to.at to.len, me);
     }
-
-  pub recipient_as : {r q : Peer} → r ≡ q → AfterRecipient lens names k s to r → AfterRecipient lens names k s to q
-  recipient_as e A = subst (λ (x : Peer). AfterRecipient lens names k s to x) e A
 
 -- ---- the range
 

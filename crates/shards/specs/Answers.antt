@@ -1,6 +1,6 @@
 -- What the tests on a Shard answer.
 -- Assumes nothing.
-use Rattle.std.specs.Prelude.{◌≡◌, Bool, true, false, ◌&&◌, List, ℕ, ◌≤◌, ◌<◌, length, ltb}
+use Rattle.std.specs.Prelude.{◌≡◌, Bool, true, false, ◌&&◌, List, ℕ, ◌≤◌, ◌<◌, length, ltb, Option, Some, None}
 use Rattle.limits.specs.Limits.{entries_limit}
 use Rattle.keys.specs.declared.Bound.{Bound}
 use Rattle.keys.specs.Bound.{below, holds}
@@ -11,8 +11,6 @@ use Rattle.message.specs.Table.{key_of}
 use Rattle.message.specs.View.{bytes_of, PartIn}
 use Rattle.delegation.specs.Map.{Keeps as KeepsMap, room, Left}
 use Rattle.peers.specs.Names.{Keeps as KeepsNames}
-use Rattle.peers.specs.declared.Peer.{Peer}
-use Rattle.peers.specs.declared.Peer.TheVariants.{Is, Unknown}
 use Rattle.protocol.specs.Records.{in_range}
 use Rattle.protocol.specs.Owners.{whole}
 use Rattle.protocol.specs.State.{Host}
@@ -21,15 +19,15 @@ use Rattle.hosts.specs.Memory.{memory}
 use Rattle.hosts.specs.Keeps.{Core}
 
 -- the number of a host that has the address and is another, or there is none
-abbrev pub RecipientCases : Peer → (name_lens names : List ℕ) → State → List ℕ → Part → Type 0
-RecipientCases (Is i) name_lens names k s to =
+abbrev pub RecipientCases : Option ℕ → (name_lens names : List ℕ) → State → List ℕ → Part → Type 0
+RecipientCases (Some i) name_lens names k s to =
     (n : ℕ) (N : ℕ → Address) → KeepsNames name_lens names k.width n N → k.hosts ≤ n
     → (i < k.hosts) × (N i ≡ bytes_of s to) × (i ≡ k.me → ⊥)
-RecipientCases Unknown name_lens names k s to =
+RecipientCases None name_lens names k s to =
     (n : ℕ) (N : ℕ → Address) → KeepsNames name_lens names k.width n N → k.hosts ≤ n → PartIn s to
     → (i : ℕ) → i < k.hosts → N i ≡ bytes_of s to → i ≡ k.me
 
-pub record AfterRecipient (name_lens names : List ℕ) (k : State) (s : List ℕ) (to : Part) (r : Peer) : Type 0 where
+pub record AfterRecipient (name_lens names : List ℕ) (k : State) (s : List ℕ) (to : Part) (r : Option ℕ) : Type 0 where
   pub is : RecipientCases r name_lens names k s to
 
 -- r says whether the range has a key; then its bounds can be written

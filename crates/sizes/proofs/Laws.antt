@@ -1,16 +1,12 @@
 -- The laws of the bytes of a list of entries.
 -- Assumes nothing.
-use mathlib.Core.Path.{◌≡◌, refl, subst}
+use mathlib.Core.Path.{◌≡◌, refl}
 use mathlib.Core.List.{List}
 use Prim.Native.Nat.{ℕ, zero, suc, ◌+◌, ◌-◌, ◌<◌}
 use native.Mathlib.Omega.{arith}
 use lib.ListN.{get_or}
 use Rattle.format.specs.Number.{width}
-use Rattle.sizes.specs.Sizes.{sizes, AfterSize}
-use Rattle.sizes.specs.declared.Size.{Size}
-
-pub size_as : {ls : List ℕ} {m : ℕ} {r q : Size} → r ≡ q → AfterSize ls m r → AfterSize ls m q
-size_as {ls} {m} e A = subst (λ (x : Size). AfterSize ls m x) e A
+use Rattle.sizes.specs.Sizes.{sizes}
 
 -- what is left of the sizes, once one was counted
 pub sizes_step : (ls : List ℕ) (i k : ℕ) → 0 < k → sizes ls i k ≡ width + width + get_or ls i 0 + sizes ls (i + 1) (k - 1)

@@ -6,33 +6,18 @@ ghost use Rattle.sizes.specs.Sizes.{AfterSize};
 use format::WIDTH;
 use limits::BYTES_MAX;
 
-// The bytes of a list of entries.
-#[derive(Clone, Copy)]
-pub enum Size {
-    Is(usize),
-    TooLong,
-}
-
-// The bytes that a list of m entries takes, from the lengths of its values alone. It stops at the first
-// entry with which they are too many.
-pub fn size_of(lens: &[u64], m: usize) -> Size
+// The bytes that a list of m entries takes, from the lengths of its values alone, or none if they are more
+// than a message has. It stops at the first entry with which they are too many.
+pub fn size_of(lens: &[u64], m: usize) -> Option<usize>
     ensures { AfterSize lens.now m result }
 {
-    if lens.len() < m {
-        return Size::TooLong;
-    }
     let mut total = WIDTH;
-    let mut i: usize = 0;
-    while i < m {
-        let len = lens[i] as usize;
-        if BYTES_MAX - total < WIDTH + WIDTH {
-            return Size::TooLong;
-        }
-        if BYTES_MAX - total - (WIDTH + WIDTH) < len {
-            return Size::TooLong;
+    for &len in lens.get(..m)? {
+        let len = len as usize;
+        if BYTES_MAX - total < WIDTH + WIDTH || BYTES_MAX - total - (WIDTH + WIDTH) < len {
+            return None;
         }
         total += WIDTH + WIDTH + len;
-        i += 1;
     }
-    Size::Is(total)
+    Some(total)
 }

@@ -6,9 +6,10 @@ ghost use Rattle.sorting.specs.Answers.{AfterSort};
 
 use format::Part;
 use hosts::State;
+use lent::Strings;
 
 // The peer of the next message is a hint, where its sender was found; of a sender that was not it says nothing.
-#[derive(Clone, Copy)]
+#[derive(Clone, Copy, Debug, PartialEq, Eq)]
 pub enum Kind {
     Elsewhere,
     Again,
@@ -18,8 +19,7 @@ pub enum Kind {
 
 // What is the message with that number from an address, whose destination stands in the datagram s?
 pub fn sort(
-    name_lens: &[u64],
-    names: &[u8],
+    names: Strings<&[u64], &[u8]>,
     counts: &[u64],
     k: State,
     from: &[u8],
@@ -27,20 +27,17 @@ pub fn sort(
     n: u64,
     to: Part,
 ) -> Kind
-    ensures { AfterSort name_lens.now names.now counts.now k from.now s.now n to result }
+    ensures { AfterSort names.entry.lens.now names.entry.bytes.now counts.now k from.now s.now n to result }
 {
     let at = to.at;
-    if s.len() < at {
-        return Kind::Elsewhere;
-    }
-    if s.len() - at < to.len {
+    if s.len() < at || s.len() - at < to.len {
         return Kind::Elsewhere;
     }
     let end = at + to.len;
-    if !hearing::own(name_lens, names, k, &s[at..end]) {
+    if !hearing::own(names, k, &s[at..end]) {
         return Kind::Elsewhere;
     }
-    let heard = hearing::last(name_lens, names, counts, k, from);
+    let heard = hearing::last(names, counts, k, from);
     let last = heard.number;
     if n <= last {
         return Kind::Again;

@@ -4,7 +4,7 @@ use mathlib.Core.Path.{◌≡◌, refl, sym, ap, ◌∙◌, subst}
 use mathlib.Core.Bool.{Bool, true, false, cond}
 use mathlib.Core.List.{List}
 use mathlib.Core.Option.{none}
-use Prim.Native.Nat.{ℕ, min, ◌+◌, ◌*◌, ◌-◌, ◌≤◌, ◌<◌}
+use Prim.Native.Nat.{ℕ, ◌+◌, ◌*◌, ◌-◌, ◌≤◌, ◌<◌}
 use native.Mathlib.Nat.{le-div_iff_mul-le, le-min}
 use native.Mathlib.Omega.{arith}
 use lib.ListN.{length, get_or}
@@ -18,11 +18,10 @@ use Rattle.distinct.specs.Distinct.{string, Distinct}
 use Rattle.records.specs.Table.{empty}
 use Rattle.records.specs.Memory.{Shape, Keeps as KeepsTable}
 use Rattle.records.specs.Answers.{AfterStart as TableStarted}
-use Rattle.delegation.specs.declared.Changed.{Changed}
-use Rattle.delegation.specs.declared.Changed.TheVariants.{NoRoom}
-use Rattle.delegation.specs.Map.{Keeps as KeepsMap, AfterStart as MapStarted}
-use Rattle.peers.specs.declared.Added.{Added}
-use Rattle.peers.specs.declared.Added.TheVariants.{At, Full, TooLong}
+use Rattle.std.specs.Prelude.{Option, Some, None, Result, Ok, Err}
+use Rattle.delegation.specs.Map.{Keeps as KeepsMap}
+use Rattle.peers.specs.declared.Refused.{Refused}
+use Rattle.peers.specs.declared.Refused.TheVariants.{Full, TooLong}
 use Rattle.peers.specs.Names.{Keeps as KeepsNames, AfterAdd, joined, places as namePlaces}
 use Rattle.delivery.specs.Post.{nothing}
 use Rattle.delivery.specs.Memory.{Keeps as KeepsPost, capacity}
@@ -32,10 +31,9 @@ use Rattle.hosts.specs.declared.State.{State}
 use Rattle.hosts.specs.Memory.{Memory, memory}
 use Rattle.hosts.specs.Says.{firsts}
 use Rattle.hosts.specs.Keeps.{Sized, Core, Keeps}
-use Rattle.starting.specs.declared.Started.TheVariants.{Now, NoHost, Unfit}
-use Rattle.starting.specs.Answers.{addresses, Serves, AfterStart}
-use Rattle.serving.specs.Answers.{Tells, Lengths, begun}
-use Rattle.starting.specs.Inner.{NoLonger, Listed, Place, Own, Enlists}
+use Rattle.starting.specs.Answers.{addresses, AfterStart}
+use Rattle.serving.specs.Answers.{Lengths, begun}
+use Rattle.starting.specs.Inner.{NoLonger, Place, Own, Enlists}
 use Rattle.starting.proofs.Lists.{none_alike, none_long, none_own, one_starts}
 
 -- ---- the list
@@ -50,38 +48,39 @@ one_longer : {lens : List ℕ} {n most : ℕ} {r : Bool} → NoneLonger lens n m
 one_longer T e f = let w = T.no e in omega (arith, w.2, f w.0 w.1)
 
 module _ {ats lens bytes : List ℕ} {n : ℕ} {me : Address} where
-  none_starts : (WellFormed ats lens n (length bytes) → start (addresses ats lens bytes n) me ≡ none) → Own ats lens bytes n me n
-  none_starts f = record { within = omega arith; starts = λ p. absurd (omega arith); none_starts = λ e. f }
+  none_starts : (WellFormed ats lens n (length bytes) → start (addresses ats lens bytes n) me ≡ none) → Own ats lens bytes n me None
+  none_starts f = record { is = f }
 
   -- the columns do not fit together
-  pub unformed : {r : Bool} → Inside ats lens n (length bytes) r → r ≡ false → Own ats lens bytes n me n
+  pub unformed : {r : Bool} → Inside ats lens n (length bytes) r → r ≡ false → Own ats lens bytes n me None
   unformed I e = none_starts (λ W. absurd (I.no e W))
 
   -- two addresses are equal
-  pub repeats : {r : Bool} → Distinct ats lens n bytes r → r ≡ false → Own ats lens bytes n me n
+  pub repeats : {r : Bool} → Distinct ats lens n bytes r → r ≡ false → Own ats lens bytes n me None
   repeats D e =
       none_starts
       (λ W. let s = D.no e W in none_alike (string ats lens bytes) n me s.0 s.1 s.2 s.3 s.4)
 
   -- one is too long
-  pub lengthy : {r : Bool} → NoneLonger lens n (bytes_max - 1) r → r ≡ false → Own ats lens bytes n me n
+  pub lengthy : {r : Bool} → NoneLonger lens n (bytes_max - 1) r → r ≡ false → Own ats lens bytes n me None
   lengthy T e =
       none_starts
       (λ W. none_long (string ats lens bytes) n me (λ f. one_longer T e (λ i p. omega (arith, f i p, length_string bytes W i p))))
 
   -- the list is in order, and the own address was looked for
-  pub sought : {q : Bool} {p : ℕ} → WellFormed ats lens n (length bytes) → Distinct ats lens n bytes q → q ≡ true
-      → NoLonger lens n (bytes_max - 1) → Place ats lens bytes n me p → Own ats lens bytes n me p
-  sought {q} {p} W D e L P = record {
-    within = P.within;
-    starts = λ h. record {
-      listed = record { formed = W; distinct = D.yes e };
-      me_is = P.is h;
-      host = one_starts (string ats lens bytes) n me (D.yes e) (λ i l. omega (arith, L i l, length_string bytes W i l)) p h (P.is h);
-    };
-    none_starts = λ z X.
-        none_own (string ats lens bytes) n me (λ i l. P.before i (subst (λ (x : ℕ). i < x) (sym z) l));
+  pub sought : {q : Bool} (r : Option ℕ) → WellFormed ats lens n (length bytes) → Distinct ats lens n bytes q → q ≡ true
+      → NoLonger lens n (bytes_max - 1) → Place ats lens bytes n me r → Own ats lens bytes n me r
+  sought (Some p) W D e L P = record {
+    is = (
+      P.is.0,
+      record {
+        listed = record { formed = W; distinct = D.yes e };
+        me_is = P.is.1;
+        host = one_starts (string ats lens bytes) n me (D.yes e) (λ i l. omega (arith, L i l, length_string bytes W i l)) p P.is.0 P.is.1;
+      },
+    );
   }
+  sought None W D e L P = record { is = λ X. none_own (string ats lens bytes) n me P.is }
 
 -- ---- the addresses written down
 
@@ -94,26 +93,15 @@ rejoined N i j = go (eqb j i) refl
     go false e = refl
 
 module _ {L M width : ℕ} {ats lens bytes : List ℕ} {n : ℕ} (E : Enlists L M width ats lens bytes n) where
-  -- none yet
-  pub enlisted_none : (name_lens names : List ℕ) → KeepsNames name_lens names width 0 (string ats lens bytes)
-  enlisted_none name_lens names = record {
-    wide = E.wide;
-    fits_lens = omega arith;
-    fits_names = omega arith;
-    short = λ i h. absurd (omega arith);
-    is = λ i h. absurd (omega arith);
-    distinct = λ i j h. absurd (omega arith);
-  }
-
   -- one more: none of the reasons for which an address is refused holds
   module _ {name_lens names : List ℕ} {i : ℕ} (h : i < n) (l : length name_lens ≡ L) (m : length names ≡ M)
       (K : KeepsNames name_lens names width i (string ats lens bytes)) where
     abbrev N : ℕ → Address
     N = string ats lens bytes
 
-    pub enlisted_more : {nameLens' names' : List ℕ} (r : Added) → AfterAdd name_lens names width i (string ats lens bytes i) r nameLens' names'
+    pub enlisted_more : {nameLens' names' : List ℕ} (r : Result ℕ Refused) → AfterAdd name_lens names width i (string ats lens bytes i) r nameLens' names'
         → KeepsNames nameLens' names' width (i + 1) (string ats lens bytes)
-    enlisted_more (At j) A =
+    enlisted_more (Ok j) A =
         let D = E.listed.distinct in
         let J = A.is.1 N K (λ k p e. let z : k ≡ i = D k i (omega arith) h e in omega (arith, z)) in
         record {
@@ -124,27 +112,13 @@ module _ {L M width : ℕ} {ats lens bytes : List ℕ} {n : ℕ} (E : Enlists L 
           is = λ k p. J.is k p ∙ rejoined N i k;
           distinct = λ x y p q e. D x y (omega arith) (omega arith) e;
         }
-    enlisted_more Full A =
+    enlisted_more (Err Full) A =
         let f : n ≤ namePlaces name_lens names width =
         le-min (omega (arith, E.fits_lens)) ((le-div_iff_mul-le E.wide).1 (omega (arith, E.fits_names))) in
         absurd (omega (arith, f, A.is.2 E.wide))
-    enlisted_more TooLong A = absurd (omega (arith, A.is.2, E.short i h, length_string bytes E.listed.formed i h))
-
--- all of them
-pub enlisted : {name_lens names : List ℕ} {width i n : ℕ} {N : ℕ → Address} → i ≡ n → KeepsNames name_lens names width i N
-    → KeepsNames name_lens names width n N
-enlisted {name_lens} {names} {width} {N = N} e K = subst (λ x. KeepsNames name_lens names width x N) e K
+    enlisted_more (Err TooLong) A = absurd (omega (arith, A.is.2, E.short i h, length_string bytes E.listed.formed i h))
 
 -- ---- what each layer holds at first
-
-pub map_as : {lows owners lows' owners' : List ℕ} {v : ℕ} {r q : Changed} → r ≡ q → MapStarted lows owners v r lows' owners'
-    → MapStarted lows owners v q lows' owners'
-map_as {lows} {owners} {lows'} {owners'} {v} e A = subst (λ r. MapStarted lows owners v r lows' owners') e A
-
-pub map_fits : {lows owners lows' owners' : List ℕ} {v : ℕ} → MapStarted lows owners v NoRoom lows' owners' → 0 < length lows → 0 < length owners → ⊥
-map_fits {lows} {owners} A p q =
-    let f : 1 ≤ min (length lows) (length owners) = le-min (omega arith) (omega arith) in
-    omega (arith, f, A.is.2)
 
 table_ready : {keys slots lens values slots' : List ℕ} (r : Bool) → TableStarted keys slots lens values r slots'
     → Shape (length keys) (length slots) (length lens) (length values) 0 → KeepsTable keys slots' lens values 0 empty
@@ -162,19 +136,6 @@ post_ready false A s h = absurd ((A.unfit refl).2 s)
 abbrev pub Long : Memory → (room : List ℕ) → (width size n : ℕ) → Type 0
 Long m room width size n =
     Lengths (length m.lows) (length m.owners) (length m.keys) (length m.slots) (length m.lens) (length m.values) (length m.name_lens) (length m.names) (length m.counts) (length m.places) (length m.mail) (length room) width size n
-
-long : {m : Memory} {room : List ℕ} {width size n : ℕ} {f : ℕ → ℕ} → Serves m room width size n f → Long m room width size n
-long S = record {
-  datagrams = record { sized = S.sized; least = S.least; room_fits = S.room_fits; wide = S.wide };
-  low = S.lows;
-  owner = S.owners;
-  fits_lens = S.name_lens;
-  fits_names = S.names;
-  fits_counts = S.counts;
-  place = S.places;
-  fits_mail = S.mail;
-  table = S.table;
-}
 
 -- ---- the host
 
@@ -215,54 +176,25 @@ fresh_core {N = N} Z K F T P h e = record {
 
 -- ---- the answers
 
--- what is lent is too little
-pub too_little : {m : Memory} {room : List ℕ} {width size n : ℕ} {ats addressLens bytes : List ℕ} {me : Address} {r : Bool}
-    → Tells (Long m room width size n) r → r ≡ false → AfterStart m room width size ats addressLens bytes n me Unfit m
-too_little T e = record { is = (refl, λ S. T.no e (long S)) }
-
-module _ {ats addressLens bytes : List ℕ} {own n : ℕ} {me : Address} (O : Own ats addressLens bytes n me own) where
-  -- no host starts with the list
-  pub no_host : {m : Memory} {room : List ℕ} {width size : ℕ} → own ≡ n → AfterStart m room width size ats addressLens bytes n me NoHost m
-  no_host e = record { is = (refl, O.none_starts e) }
-
-  module _ (ne : own ≡ n → ⊥) where
-    within : own < n
-    within = omega (arith, O.within, ne)
-
-    pub listed : Listed ats addressLens bytes n
-    listed = (O.starts within).listed
-
-    -- an address is longer than there is room for
-    pub too_long : {m : Memory} {room : List ℕ} {width size : ℕ} {r : Bool} → NoneLonger addressLens n width r → r ≡ false
-        → AfterStart m room width size ats addressLens bytes n me Unfit m
-    too_long T e = record {
-      is = (refl, λ S. one_longer T e (λ i p. omega (arith, S.short i p, length_string bytes listed.formed i p)));
-    }
-
-    -- the addresses fit
-    pub enlists : {lows owners keys slots lens values name_lens names counts places mail room width size : ℕ}
-        → Lengths lows owners keys slots lens values name_lens names counts places mail room width size n → NoLonger addressLens n width
-        → Enlists name_lens names width ats addressLens bytes n
-    enlists L s = record { listed = listed; wide = L.datagrams.wide; fits_lens = L.fits_lens; fits_names = L.fits_names; short = s }
-
-    -- all is written
-    pub started : {lows owners keys slots lens values name_lens names counts places mail room : List ℕ} {width size : ℕ}
-        {lows' owners' slots' nameLens' names' counts' places' : List ℕ} {bounds : ℕ} {k : State} {r q : Bool}
-        → Long (memory lows owners keys slots lens values name_lens names counts places mail) room width size n
-        → KeepsMap lows' owners' bounds (λ x. 0) → TableStarted keys slots lens values r slots'
-        → PostStarted counts places mail size q counts' places' → KeepsNames nameLens' names' width n (string ats addressLens bytes)
-        → k ≡ begun own n width size bounds
-        → AfterStart (memory lows owners keys slots lens values name_lens names counts places mail) room width size ats addressLens bytes n me (Now k) (memory lows' owners' keys slots' lens values nameLens' names' counts' places' mail)
-    started {keys = keys} {lens = lens} {values = values} {places = places} {mail = mail} {room = room} {size = size} {lows' = lows'} {owners' = owners'} {slots' = slots'} {nameLens' = nameLens'} {names' = names'} {counts' = counts'} {places' = places'} {r = r} {q = q} L F T P K e =
-        let N = string ats addressLens bytes in
-        let S = O.starts within in
-        let M : MailShape (capacity places) (length mail) size = record { wide = omega (arith, L.datagrams.least); fits_mail = L.fits_mail } in
-        let m = memory lows' owners' keys slots' lens values nameLens' names' counts' places' mail in
-        let C = fresh_core L.datagrams.sized K F (table_ready r T L.table) (post_ready q P M L.fits_counts) within S.me_is in
-        record {
-          is = (
-            fresh (N 0) (firsts N n) me,
-            S.host,
-            subst (λ (x : State). Keeps m x room (fresh (N 0) (firsts N n) me)) (sym e) (record { core = C; room_is = refl }),
-          );
-        }
+module _ {ats addressLens bytes : List ℕ} {own n : ℕ} {me : Address} (O : Own ats addressLens bytes n me (Some own)) where
+  -- all is written
+  pub started : {lows owners keys slots lens values name_lens names counts places mail room : List ℕ} {width size : ℕ}
+      {lows' owners' slots' nameLens' names' counts' places' : List ℕ} {bounds : ℕ} {k : State} {r q : Bool}
+      → Long (memory lows owners keys slots lens values name_lens names counts places mail) room width size n
+      → KeepsMap lows' owners' bounds (λ x. 0) → TableStarted keys slots lens values r slots'
+      → PostStarted counts places mail size q counts' places' → KeepsNames nameLens' names' width n (string ats addressLens bytes)
+      → k ≡ begun own n width size bounds
+      → AfterStart (memory lows owners keys slots lens values name_lens names counts places mail) room width size ats addressLens bytes n me (Ok k) (memory lows' owners' keys slots' lens values nameLens' names' counts' places' mail)
+  started {keys = keys} {lens = lens} {values = values} {places = places} {mail = mail} {room = room} {size = size} {lows' = lows'} {owners' = owners'} {slots' = slots'} {nameLens' = nameLens'} {names' = names'} {counts' = counts'} {places' = places'} {r = r} {q = q} L F T P K e =
+      let N = string ats addressLens bytes in
+      let S = O.is.1 in
+      let M : MailShape (capacity places) (length mail) size = record { wide = omega (arith, L.datagrams.least); fits_mail = L.fits_mail } in
+      let m = memory lows' owners' keys slots' lens values nameLens' names' counts' places' mail in
+      let C = fresh_core L.datagrams.sized K F (table_ready r T L.table) (post_ready q P M L.fits_counts) O.is.0 S.me_is in
+      record {
+        is = (
+          fresh (N 0) (firsts N n) me,
+          S.host,
+          subst (λ (x : State). Keeps m x room (fresh (N 0) (firsts N n) me)) (sym e) (record { core = C; room_is = refl }),
+        );
+      }

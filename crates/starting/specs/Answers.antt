@@ -1,6 +1,6 @@
 -- What starting a host answers (document 01, sections 5 and 6). The hosts' addresses are handed in as a list of byte strings.
 -- Assumes nothing.
-use Rattle.std.specs.Prelude.{◌≡◌, List, ℕ, ◌*◌, ◌≤◌, ◌<◌, length}
+use Rattle.std.specs.Prelude.{◌≡◌, List, ℕ, ◌*◌, ◌≤◌, ◌<◌, length, Result, Ok, Err}
 use Rattle.std.proofs.Math.Option.{none, some}
 use Rattle.limits.specs.Limits.{datagram_min}
 use Rattle.message.specs.Message.{Address}
@@ -12,8 +12,9 @@ use Rattle.protocol.specs.State.{Host, start}
 use Rattle.hosts.specs.Memory.{Memory}
 use Rattle.hosts.specs.Says.{firsts}
 use Rattle.hosts.specs.Keeps.{Sized, Keeps}
-use Rattle.starting.specs.declared.Started.{Started}
-use Rattle.starting.specs.declared.Started.TheVariants.{Now, NoHost, Unfit}
+use Rattle.hosts.specs.declared.State.{State}
+use Rattle.starting.specs.declared.Refused.{Refused}
+use Rattle.starting.specs.declared.Refused.TheVariants.{NoHost, Unfit}
 
 -- the addresses of the list
 abbrev pub addresses : (ats lens bytes : List ℕ) → ℕ → List Address
@@ -37,14 +38,14 @@ pub record Serves (m : Memory) (room : List ℕ) (width size n : ℕ) (addressLe
   pub mail : capacity m.places * size ≤ length m.mail
 
 -- memory keeps the host that the definition starts; or the definition starts none; or what is lent does not serve. A refusal leaves memory as it was
-abbrev pub StartCases : Started → Memory → (room : List ℕ) → (width size : ℕ) → (ats lens bytes : List ℕ) → ℕ → Address → Memory → Type 0
-StartCases (Now k) m room width size ats lens bytes n me m' =
+abbrev pub StartCases : Result State Refused → Memory → (room : List ℕ) → (width size : ℕ) → (ats lens bytes : List ℕ) → ℕ → Address → Memory → Type 0
+StartCases (Ok k) m room width size ats lens bytes n me m' =
     (h : Host) × (start (addresses ats lens bytes n) me ≡ some h) × Keeps m' k room h
-StartCases NoHost m room width size ats lens bytes n me m' =
+StartCases (Err NoHost) m room width size ats lens bytes n me m' =
     (m' ≡ m) × (WellFormed ats lens n (length bytes) → start (addresses ats lens bytes n) me ≡ none)
-StartCases Unfit m room width size ats lens bytes n me m' =
+StartCases (Err Unfit) m room width size ats lens bytes n me m' =
     (m' ≡ m) × (Serves m room width size n (λ i. length (string ats lens bytes i)) → ⊥)
 
-pub record AfterStart (m : Memory) (room : List ℕ) (width size : ℕ) (ats lens bytes : List ℕ) (n : ℕ) (me : Address) (r : Started) (m' : Memory)
+pub record AfterStart (m : Memory) (room : List ℕ) (width size : ℕ) (ats lens bytes : List ℕ) (n : ℕ) (me : Address) (r : Result State Refused) (m' : Memory)
     : Type 0 where
   pub is : StartCases r m room width size ats lens bytes n me m'

@@ -1,6 +1,6 @@
 -- What the steps of starting a host answer.
 -- Assumes nothing.
-use Rattle.std.specs.Prelude.{◌≡◌, List, ℕ, ◌*◌, ◌≤◌, ◌<◌, length, get_or}
+use Rattle.std.specs.Prelude.{◌≡◌, List, ℕ, ◌*◌, ◌≤◌, ◌<◌, length, get_or, Option, Some, None}
 use Rattle.std.proofs.Math.Option.{none, some}
 use Rattle.message.specs.Message.{Address}
 use Rattle.strings.specs.Strings.{WellFormed}
@@ -19,11 +19,14 @@ pub record Listed (ats lens bytes : List ℕ) (n : ℕ) : Type 0 where
   pub formed : WellFormed ats lens n (length bytes)
   pub distinct : (i j : ℕ) → i < n → j < n → string ats lens bytes i ≡ string ats lens bytes j → i ≡ j
 
--- r is the first place of the name on the list, or n
-pub record Place (ats lens bytes : List ℕ) (n : ℕ) (name : Address) (r : ℕ) : Type 0 where
-  pub within : r ≤ n
-  pub is : r < n → string ats lens bytes r ≡ name
-  pub before : (i : ℕ) → i < r → string ats lens bytes i ≡ name → ⊥
+-- r is the first place of the name on the list, or it is not there
+abbrev pub PlaceCases : Option ℕ → (ats lens bytes : List ℕ) → ℕ → Address → Type 0
+PlaceCases (Some p) ats lens bytes n name =
+    (p < n) × (string ats lens bytes p ≡ name) × ((i : ℕ) → i < p → string ats lens bytes i ≡ name → ⊥)
+PlaceCases None ats lens bytes n name = (i : ℕ) → i < n → string ats lens bytes i ≡ name → ⊥
+
+pub record Place (ats lens bytes : List ℕ) (n : ℕ) (name : Address) (r : Option ℕ) : Type 0 where
+  pub is : PlaceCases r ats lens bytes n name
 
 -- a host with the address `me`, at place r, starts with the list
 pub record Starts (ats lens bytes : List ℕ) (n : ℕ) (me : Address) (r : ℕ) : Type 0 where
@@ -31,11 +34,13 @@ pub record Starts (ats lens bytes : List ℕ) (n : ℕ) (me : Address) (r : ℕ)
   pub me_is : string ats lens bytes r ≡ me
   pub host : start (addresses ats lens bytes n) me ≡ some (fresh (string ats lens bytes 0) (addresses ats lens bytes n) me)
 
--- r is the place of the own address on a list with which a host starts, or n and none starts
-pub record Own (ats lens bytes : List ℕ) (n : ℕ) (me : Address) (r : ℕ) : Type 0 where
-  pub within : r ≤ n
-  pub starts : r < n → Starts ats lens bytes n me r
-  pub none_starts : r ≡ n → WellFormed ats lens n (length bytes) → start (addresses ats lens bytes n) me ≡ none
+-- r is the place of the own address on a list with which a host starts, or none starts
+abbrev pub OwnCases : Option ℕ → (ats lens bytes : List ℕ) → ℕ → Address → Type 0
+OwnCases (Some p) ats lens bytes n me = (p < n) × Starts ats lens bytes n me p
+OwnCases None ats lens bytes n me = WellFormed ats lens n (length bytes) → start (addresses ats lens bytes n) me ≡ none
+
+pub record Own (ats lens bytes : List ℕ) (n : ℕ) (me : Address) (r : Option ℕ) : Type 0 where
+  pub is : OwnCases r ats lens bytes n me
 
 -- ---- writing
 

@@ -12,19 +12,18 @@ ghost use Rattle.hosts.specs.Memory.{memory};
 ghost use Rattle.starting.specs.Inner.{Place, Own, Enlists};
 ghost use Rattle.starting.specs.Answers.{AfterStart};
 
-use delegation::Changed;
 use hosts::State;
 use limits::BYTES_MAX;
 
-// The new host's numbers; or that no host starts with such a list; or that what is lent does not serve.
-#[derive(Clone, Copy)]
-pub enum Started {
-    Now(State),
+// Why there is no new host: none starts with such a list, or what is lent does not serve.
+#[derive(Clone, Copy, Debug, PartialEq, Eq)]
+pub enum Refused {
     NoHost,
     Unfit,
 }
 
-// Starts the host with the own address `me`, on a list of n addresses that stand in the bytes.
+// Starts the host with the own address `me`, on a list of n addresses that stand in the bytes, and answers its
+// numbers.
 pub fn start(
     lows: &mut [u64],
     owners: &mut [u64],
@@ -45,15 +44,14 @@ pub fn start(
     bytes: &[u8],
     n: usize,
     me: &[u8],
-) -> Started
+) -> Result<State, Refused>
     ensures { AfterStart (memory lows.old owners.old keys.now slots.old lens.now values.now name_lens.old names.old counts.old places.old mail.now) room.now width size
         ats.now address_lens.now bytes.now n me.now result
         (memory lows.new owners.new keys.now slots.new lens.now values.now name_lens.new names.new counts.new places.new mail.now) }
 {
-    let own = own_place(ats, address_lens, bytes, n, me);
-    if own == n {
-        return Started::NoHost;
-    }
+    let Some(own) = own_place(ats, address_lens, bytes, n, me) else {
+        return Err(Refused::NoHost);
+    };
     if !serving::serves(
         lows.len(),
         owners.len(),
@@ -71,50 +69,44 @@ pub fn start(
         size,
         n,
     ) {
-        return Started::Unfit;
+        return Err(Refused::Unfit);
     }
     if !strings::none_longer(address_lens, n, width) {
-        return Started::Unfit;
+        return Err(Refused::Unfit);
     }
     let bounds = first_owns(lows, owners);
     records::start(keys, slots, lens, values);
     opening::start(counts, places, mail, size);
     enlist(name_lens, names, width, ats, address_lens, bytes, n);
-    Started::Now(serving::begun(own, n, width, size, bounds))
+    Ok(serving::begun(own, n, width, size, bounds))
 }
 
-// The place of the own address on a list with which a host starts, or n if none starts.
-fn own_place(ats: &[u64], lens: &[u64], bytes: &[u8], n: usize, me: &[u8]) -> usize
+// The place of the own address on a list with which a host starts, or None if none starts.
+fn own_place(ats: &[u64], lens: &[u64], bytes: &[u8], n: usize, me: &[u8]) -> Option<usize>
     ensures { Own ats.now lens.now bytes.now n me.now result }
 {
-    if !strings::inside(ats, lens, n, bytes.len()) {
-        return n;
-    }
-    if !distinct::distinct(ats, lens, n, bytes) {
-        return n;
-    }
-    if !strings::none_longer(lens, n, BYTES_MAX - 1) {
-        return n;
+    if !strings::inside(ats, lens, n, bytes.len())
+        || !distinct::distinct(ats, lens, n, bytes)
+        || !strings::none_longer(lens, n, BYTES_MAX - 1)
+    {
+        return None;
     }
     place(ats, lens, bytes, n, me)
 }
 
-// The place of the name on the list, or n if it is not there.
-fn place(ats: &[u64], lens: &[u64], bytes: &[u8], n: usize, name: &[u8]) -> usize
+// The place of the name on the list, or None if it is not there.
+fn place(ats: &[u64], lens: &[u64], bytes: &[u8], n: usize, name: &[u8]) -> Option<usize>
     requires { WellFormed ats.now lens.now n (length bytes.now) }
     ensures { Place ats.now lens.now bytes.now n name.now result }
 {
-    let mut i: usize = 0;
-    while i < n {
+    for i in 0..n {
         let at = ats[i] as usize;
-        let len = lens[i] as usize;
-        let end = at + len;
+        let end = at + lens[i] as usize;
         if memory::same(&bytes[at..end], name) {
-            return i;
+            return Some(i);
         }
-        i += 1;
     }
-    n
+    None
 }
 
 // The first host owns every key. Answers how many bounds that takes.
@@ -122,10 +114,7 @@ fn first_owns(lows: &mut [u64], owners: &mut [u64]) -> usize
     requires { (0 < length lows.old) × (0 < length owners.old) }
     ensures { KeepsMap lows.new owners.new result (λ (k : ℕ). 0) }
 {
-    match delegation::start(lows, owners, 0) {
-        Changed::Bounds(m) => m,
-        Changed::NoRoom => 0,
-    }
+    delegation::start(lows, owners, 0).unwrap_or(0)
 }
 
 // Writes down the addresses of the list, one after the other.
@@ -141,12 +130,10 @@ fn enlist(
     requires { Enlists (length lens.old) (length names.old) width ats.now address_lens.now bytes.now n }
     ensures { KeepsNames lens.new names.new width n (string ats.now address_lens.now bytes.now) }
 {
-    let mut i: usize = 0;
-    while i < n {
+    for i in 0..n {
         let at = ats[i] as usize;
-        let len = address_lens[i] as usize;
-        let end = at + len;
-        peers::add(lens, names, width, i, &bytes[at..end]);
-        i += 1;
+        let end = at + address_lens[i] as usize;
+        // There is room for each of them, so none is refused.
+        let _ = peers::add(lens, names, width, i, &bytes[at..end]);
     }
 }

@@ -9,18 +9,16 @@ ghost use Rattle.stores.specs.Answers.{AfterSet};
 ghost use Rattle.stores.specs.Inner.{Written, AfterAdd, AfterRenew};
 
 use limits::VALUE_MAX;
-use searches::Spot;
 
-// What setting an entry answers: how many entries there are now, or a refusal, and then nothing has
-// changed.
-#[derive(Clone, Copy)]
-pub enum Stored {
-    Entries(usize),
+// Why an entry is not set. Then nothing has changed.
+#[derive(Clone, Copy, Debug, PartialEq, Eq)]
+pub enum Refused {
     Full,
     TooLong,
 }
 
-// Sets the key's value. A new key of a full table and a long value are refused.
+// Sets the key's value, and answers how many entries there are then. A new key of a full table and a
+// long value are refused.
 pub fn set(
     keys: &mut [u64],
     slots: &mut [u64],
@@ -29,20 +27,19 @@ pub fn set(
     n: usize,
     key: u64,
     value: &[u8],
-) -> Stored
+) -> Result<usize, Refused>
     ensures { AfterSet keys.old slots.old lens.old values.old n key value.now result
         keys.new slots.new lens.new values.new }
 {
     if VALUE_MAX < value.len() {
-        return Stored::TooLong;
+        return Err(Refused::TooLong);
     }
     if !records::fits(keys.len(), slots.len(), lens.len(), values.len(), n) {
-        return Stored::Full;
+        return Err(Refused::Full);
     }
-    let spot = searches::seek(keys, n, key);
-    match spot {
-        Spot::Old(i) => renew(slots, lens, values, n, i, value),
-        Spot::New(p) => add(keys, slots, lens, values, n, p, key, value),
+    match searches::seek(keys, n, key) {
+        Ok(i) => renew(slots, lens, values, n, i, value),
+        Err(p) => add(keys, slots, lens, values, n, p, key, value),
     }
 }
 
@@ -54,15 +51,15 @@ fn renew(
     n: usize,
     i: usize,
     value: &[u8],
-) -> Stored
+) -> Result<usize, Refused>
     requires { length value.now ≤ value_max }
     ensures { AfterRenew slots.now lens.old values.old n i value.now result
         lens.new values.new }
 {
     if write(slots, lens, values, i, value) {
-        return Stored::Entries(n);
+        return Ok(n);
     }
-    Stored::Full
+    Err(Refused::Full)
 }
 
 // A new key before place p: its value goes into the first free slot, and the slot's number to place p.
@@ -75,21 +72,18 @@ fn add(
     p: usize,
     key: u64,
     value: &[u8],
-) -> Stored
+) -> Result<usize, Refused>
     requires { Shape (length keys.old) (length slots.old) (length lens.old) (length values.old) n × (p ≤ n) × (length value.now ≤ value_max) }
     ensures { AfterAdd keys.old slots.old lens.old values.old n p key value.now result
         keys.new slots.new lens.new values.new }
 {
-    if n == slots.len() {
-        return Stored::Full;
-    }
-    if !write(slots, lens, values, n, value) {
-        return Stored::Full;
+    if n == slots.len() || !write(slots, lens, values, n, value) {
+        return Err(Refused::Full);
     }
     let s = slots[n];
     columns::insert(keys, n, p, key);
     columns::insert(slots, n, p, s);
-    Stored::Entries(n + 1)
+    Ok(n + 1)
 }
 
 // Writes the value into the slot of place i. Refused only where memory keeps no table.
@@ -102,10 +96,7 @@ fn write(slots: &[u64], lens: &mut [u64], values: &mut [u8], i: usize, value: &[
         return false;
     }
     let s = slots[i] as usize;
-    if lens.len() <= s {
-        return false;
-    }
-    if values.len() / VALUE_MAX <= s {
+    if lens.len() <= s || values.len() / VALUE_MAX <= s {
         return false;
     }
     lens[s] = value.len() as u64;

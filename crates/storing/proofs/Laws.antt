@@ -14,8 +14,9 @@ use Rattle.message.specs.Message.{reply}
 use Rattle.records.specs.Table.{Table, put}
 use Rattle.records.specs.Memory.{Keeps}
 use Rattle.records.proofs.Laws.{keeps_size, keeps_room, size_new, size_unique}
-use Rattle.stores.specs.declared.Stored.{Stored}
-use Rattle.stores.specs.declared.Stored.TheVariants.{Entries, Full, TooLong}
+use Rattle.std.specs.Prelude.{Ok, Err}
+use Rattle.stores.specs.declared.Refused.{Refused}
+use Rattle.stores.specs.declared.Refused.TheVariants.{Full, TooLong}
 use Rattle.stores.specs.Answers.{AfterSet}
 use Rattle.decoding.specs.Decode.{same}
 use Rattle.sending.specs.Answers.{AfterSend}
@@ -38,11 +39,6 @@ use Rattle.hosts.proofs.Tables.{keeps_length, put_is}
 use Rattle.hosts.proofs.Core.{mailed, tabled, core_stored, does_dropped, name_short, has_number, answered}
 use Rattle.referring.proofs.Laws.{given}
 use Rattle.storing.specs.Answers.{row, AfterStore}
-
-pub stored_as : {keys slots lens values : List ℕ} {n key : ℕ} {v : Value} {keys' slots' lens' values' : List ℕ} {r s : Stored} → r ≡ s
-    → AfterSet keys slots lens values n key v r keys' slots' lens' values' → AfterSet keys slots lens values n key v s keys' slots' lens' values'
-stored_as {keys} {slots} {lens} {values} {n} {key} {v} {keys'} {slots'} {lens'} {values'} e A =
-    subst (λ (x : Stored). AfterSet keys slots lens values n key v x keys' slots' lens' values') e A
 
 -- the definition's step for a key of the host's own and a value that is not too long, by whether it fits
 row_as : (m M : Memory) (K : State) (R : Processed) (h : Host) (l : Letter) (key : ℕ) (v : Option Value) (fits : Bool) → long v ≡ false
@@ -112,7 +108,7 @@ module _ {m : Memory} {k : State} {key : ℕ} {v : Option Value} {p x n : ℕ} {
 
 module _ {m : Memory} {k : State} {key n : ℕ} {v : Value} {keys slots lens values : List ℕ} where
   -- what was stored fits
-  pub stored_fits : AfterSet m.keys m.slots m.lens m.values k.entries key v (Entries n) keys slots lens values → length slots ≡ length m.slots
+  pub stored_fits : AfterSet m.keys m.slots m.lens m.values k.entries key v (Ok n) keys slots lens values → length slots ≡ length m.slots
       → (h : Host) → Core m k h → fits_value (length m.slots) h key (some v) ≡ true
   stored_fits A long h C = go (look key h.records) refl
     where
@@ -137,7 +133,7 @@ tabled_same m keys slots lens values a b c d =
 
 module _ {m : Memory} {k : State} {key p x : ℕ} {v : Value} {keys slots lens values : List ℕ} {r : Done} where
   -- a key that is new to a full table is dropped
-  pub drops : x < numbers → AfterSet m.keys m.slots m.lens m.values k.entries key v Full keys slots lens values → r ≡ dropped_of k
+  drops : x < numbers → AfterSet m.keys m.slots m.lens m.values k.entries key v (Err Full) keys slots lens values → r ≡ dropped_of k
       → AfterStore m k key (some v) p x r (tabled m keys slots lens values)
   drops small A e =
       subst (λ (M : Memory). AfterStore m k key (some v) p x r M)
@@ -159,7 +155,7 @@ module _ {m : Memory} {k : State} {key p x : ℕ} {v : Value} {keys slots lens v
       }))
 
   -- a value that is not too long is not refused as too long
-  pub never_long : AfterSet m.keys m.slots m.lens m.values k.entries key v TooLong keys slots lens values → r ≡ dropped_of k
+  never_long : AfterSet m.keys m.slots m.lens m.values k.entries key v (Err TooLong) keys slots lens values → r ≡ dropped_of k
       → AfterStore m k key (some v) p x r (tabled m keys slots lens values)
   never_long A e = record {
     is = record {
@@ -167,3 +163,8 @@ module _ {m : Memory} {k : State} {key p x : ℕ} {v : Value} {keys slots lens v
       is = λ h l C H Q. absurd (omega (arith, A.is.4, ltb-false value_max (length v) Q.short));
     };
   }
+
+  pub not_stored : (e : Refused) → x < numbers → AfterSet m.keys m.slots m.lens m.values k.entries key v (Err e) keys slots lens values
+      → r ≡ dropped_of k → AfterStore m k key (some v) p x r (tabled m keys slots lens values)
+  not_stored Full small A q = drops small A q
+  not_stored TooLong small A q = never_long A q

@@ -3,46 +3,40 @@
 // is carried out only if it can be answered. A Set that finds the table full is dropped.
 #![tactic(auto)]
 
+ghost use Rattle.lent.specs.Parts.{IndexStays, PostStays, StringsStay};
 ghost use Rattle.storing.specs.Answers.{AfterRemove, AfterPut};
 
 use hosts::{Done, Processed, State};
-use stores::Stored;
+use lent::{Index, Post, Strings};
 
 // Takes the key out.
 pub fn remove(
-    keys: &mut [u64],
-    slots: &mut [u64],
-    name_lens: &[u64],
-    names: &[u8],
-    counts: &mut [u64],
-    places: &mut [u64],
+    index: &mut Index<&mut [u64]>,
+    names: Strings<&[u64], &[u8]>,
+    post: &mut Post<&mut [u64]>,
     mail: &mut [u8],
     k: State,
     key: u64,
     p: usize,
     number: u64,
 ) -> Done
-    ensures { AfterRemove keys.old slots.old name_lens.now names.now counts.old places.old mail.old k key p number result
-        keys.new slots.new counts.new places.new mail.new }
+    ensures stays { IndexStays index.old index.new × PostStays post.old post.new }
+    ensures is { AfterRemove index.old.keys.now index.old.slots.now names.entry.lens.now names.entry.bytes.now post.old.counts.now post.old.places.now mail.old k key p number result
+        index.new.keys.now index.new.slots.now post.new.counts.now post.new.places.now mail.new }
 {
-    let n = removals::delete(keys, slots, k.entries, key);
+    let n = removals::delete(index.keys, index.slots, k.entries, key);
     let sent = replying::reply(
-        name_lens, names, k.width, counts, places, mail, k.size, k.from, p, number, key, false,
-        names,
+        names, k.width, post, mail, k.size, k.from, p, number, key, None,
     );
     hosts::answered(hosts::filled(k, n), sent, Processed::Replied(p))
 }
 
 // Stores the value.
 pub fn put(
-    keys: &mut [u64],
-    slots: &mut [u64],
-    lens: &mut [u64],
-    values: &mut [u8],
-    name_lens: &[u64],
-    names: &[u8],
-    counts: &mut [u64],
-    places: &mut [u64],
+    index: &mut Index<&mut [u64]>,
+    values: &mut Strings<&mut [u64], &mut [u8]>,
+    names: Strings<&[u64], &[u8]>,
+    post: &mut Post<&mut [u64]>,
     mail: &mut [u8],
     k: State,
     key: u64,
@@ -50,19 +44,32 @@ pub fn put(
     p: usize,
     number: u64,
 ) -> Done
-    ensures { AfterPut keys.old slots.old lens.old values.old name_lens.now names.now counts.old places.old mail.old k key value.now p number result
-        keys.new slots.new lens.new values.new counts.new places.new mail.new }
+    ensures stays { IndexStays index.old index.new × StringsStay values.old values.new × PostStays post.old post.new }
+    ensures is { AfterPut index.old.keys.now index.old.slots.now values.old.lens.now values.old.bytes.now names.entry.lens.now names.entry.bytes.now post.old.counts.now post.old.places.now mail.old k key value.now p number result
+        index.new.keys.now index.new.slots.now values.new.lens.now values.new.bytes.now post.new.counts.now post.new.places.now mail.new }
 {
-    let stored = stores::set(keys, slots, lens, values, k.entries, key, value);
-    match stored {
-        Stored::Entries(n) => {
-            let sent = replying::reply(
-                name_lens, names, k.width, counts, places, mail, k.size, k.from, p, number, key,
-                true, value,
-            );
-            hosts::answered(hosts::filled(k, n), sent, Processed::Replied(p))
-        }
-        Stored::Full => hosts::dropped(k),
-        Stored::TooLong => hosts::dropped(k),
-    }
+    let Ok(n) = stores::set(
+        index.keys,
+        index.slots,
+        values.lens,
+        values.bytes,
+        k.entries,
+        key,
+        value,
+    ) else {
+        return hosts::dropped(k);
+    };
+    let sent = replying::reply(
+        names,
+        k.width,
+        post,
+        mail,
+        k.size,
+        k.from,
+        p,
+        number,
+        key,
+        Some(value),
+    );
+    hosts::answered(hosts::filled(k, n), sent, Processed::Replied(p))
 }

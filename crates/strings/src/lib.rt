@@ -10,23 +10,14 @@ ghost use Rattle.strings.specs.Strings.{Inside, NoneLonger};
 pub fn inside(ats: &[u64], lens: &[u64], m: usize, size: usize) -> bool
     ensures { Inside ats.now lens.now m size result }
 {
-    if ats.len() < m {
+    if ats.len() < m || lens.len() < m {
         return false;
     }
-    if lens.len() < m {
-        return false;
-    }
-    let mut i: usize = 0;
-    while i < m {
+    for i in 0..m {
         let at = ats[i] as usize;
-        let len = lens[i] as usize;
-        if size < at {
+        if size < at || size - at < lens[i] as usize {
             return false;
         }
-        if size - at < len {
-            return false;
-        }
-        i += 1;
     }
     true
 }
@@ -35,15 +26,5 @@ pub fn inside(ats: &[u64], lens: &[u64], m: usize, size: usize) -> bool
 pub fn none_longer(lens: &[u64], m: usize, most: usize) -> bool
     ensures { NoneLonger lens.now m most result }
 {
-    let mut i: usize = 0;
-    while i < m {
-        if lens.len() <= i {
-            return true;
-        }
-        if most < lens[i] as usize {
-            return false;
-        }
-        i += 1;
-    }
-    true
+    lens.iter().take(m).all(|&len| len as usize <= most)
 }

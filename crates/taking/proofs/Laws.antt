@@ -23,8 +23,8 @@ use Rattle.hosts.specs.Says.{Strange}
 use Rattle.hosts.specs.Keeps.{Core}
 use Rattle.hosts.proofs.Names.{length_firsts}
 use Rattle.hosts.proofs.Arrivals.{hearing, addressed, holding, no_peer, core_took, core_joined}
-use Rattle.taking.specs.declared.Taken.TheVariants.{Now, NoRoom}
-use Rattle.taking.specs.declared.Seat.TheVariants.{At, Full}
+use Rattle.std.specs.Prelude.{Some, None, Ok, Err}
+use Rattle.limits.specs.declared.NoRoom.{NoRoom}
 use Rattle.taking.specs.Answers.{InRoom, Kept, AfterTake}
 use Rattle.taking.specs.Inner.{Old, New, AfterSeat}
 
@@ -71,7 +71,7 @@ module _ (m : Memory) (k : State) (h : Host) (C : Core m k h) (a : Address) (x i
       } in
       subst (λ (j : ℕ). Seated m k h a x i j len lens names counts') (sym O.one_more) R
 
-  seat_taken : AfterSeat m.name_lens m.names m.counts k.width k.peers a (At i n) lens names counts → Seated m k h a x i n len lens names counts'
+  seat_taken : AfterSeat m.name_lens m.names m.counts k.width k.peers a (Some (i, n)) lens names counts → Seated m k h a x i n len lens names counts'
   seat_taken Z = ⊎_elim (λ o. old_seat o) (λ o. new_seat (o.0 C.N C.names_kept) o.1) Z.is
 
 -- the datagram stands in the room, from the peer i of n
@@ -93,13 +93,8 @@ kept k n len i = record { me = refl; hosts = refl; width = refl; size = refl; bo
 
 module _ {lens names : List ℕ} {k : State} {a : Address} where
   module _ {counts room : List ℕ} {x : ℕ} {s : List ℕ} where
-    pub no_bytes : length room < length s → AfterTake lens names counts room k a x s NoRoom lens names counts room
-    no_bytes h = record {
-      is = (refl, refl, refl, refl, λ lows owners keys slots ls values places mail h' C q. absurd (omega arith));
-    }
-
-    pub no_seat : {lens' names' counts' : List ℕ} → AfterSeat lens names counts k.width k.peers a Full lens' names' counts'
-        → AfterTake lens names counts room k a x s NoRoom lens' names' counts' room
+    pub no_seat : {lens' names' counts' : List ℕ} {e : NoRoom} → AfterSeat lens names counts k.width k.peers a None lens' names' counts'
+        → AfterTake lens names counts room k a x s (Err e) lens' names' counts' room
     no_seat {lens'} {names'} {counts'} Z = record {
       is = (
         Z.is.1.0,
@@ -115,8 +110,8 @@ module _ {lens names : List ℕ} {k : State} {a : Address} where
     }
 
     pub taken : {room' lens' names' counts' counts'' : List ℕ} {t : Bool} {i n : ℕ} → length s ≤ length room
-        → AfterSeat lens names counts k.width k.peers a (At i n) lens' names' counts' → AfterCount counts' i x counts'' → Copied s room 0 t room'
-        → AfterTake lens names counts room k a x s (Now (holding k n (length s) i)) lens' names' counts'' room'
+        → AfterSeat lens names counts k.width k.peers a (Some (i, n)) lens' names' counts' → AfterCount counts' i x counts'' → Copied s room 0 t room'
+        → AfterTake lens names counts room k a x s (Ok (holding k n (length s) i)) lens' names' counts'' room'
     taken {room'} {lens'} {names'} {counts'} {counts''} {t} {i} {n} fits Z W Y = record {
       is = λ lows owners keys slots ls values places mail h C.
           let m = memory lows owners keys slots ls values lens names counts places mail in

@@ -1,13 +1,11 @@
 -- How an address gets its number among the peers: what the private functions answer.
 -- Assumes nothing.
-use Rattle.std.specs.Prelude.{◌≡◌, ◌⊎◌, List, ℕ, min, ◌+◌, ◌/◌, ◌≤◌, ◌<◌, length}
+use Rattle.std.specs.Prelude.{◌≡◌, ◌⊎◌, List, ℕ, min, ◌+◌, ◌/◌, ◌≤◌, ◌<◌, length, Option, Some, None}
 use Rattle.message.specs.Message.{Address}
 use Rattle.peers.specs.Names.{Keeps as KeepsNames, places, joined as named}
 use Rattle.delivery.specs.Post.{Post, joined}
 use Rattle.delivery.specs.Memory.{Keeps as KeepsPost}
 use Rattle.hosts.specs.Says.{Strange}
-use Rattle.taking.specs.declared.Seat.{Seat}
-use Rattle.taking.specs.declared.Seat.TheVariants.{At, Full}
 
 -- there is room for one more peer with the address a, after n
 abbrev pub Roomy : (name_lens names counts : List ℕ) → (width n : ℕ) → Address → Type 0
@@ -30,21 +28,21 @@ pub record New (name_lens names counts : List ℕ) (width n : ℕ) (a : Address)
       → KeepsPost counts' places mail size (n + 1) (joined n P)
 
 -- a new peer has a place, or there is none and nothing has changed
-abbrev pub JoinCases : Seat → (name_lens names counts : List ℕ) → (width n : ℕ) → Address → (nameLens' names' counts' : List ℕ) → Type 0
-JoinCases (At i n') name_lens names counts width n a nameLens' names' counts' = New name_lens names counts width n a i n' nameLens' names' counts'
-JoinCases Full name_lens names counts width n a nameLens' names' counts' =
+abbrev pub JoinCases : Option (ℕ × ℕ) → (name_lens names counts : List ℕ) → (width n : ℕ) → Address → (nameLens' names' counts' : List ℕ) → Type 0
+JoinCases (Some (i, n')) name_lens names counts width n a nameLens' names' counts' = New name_lens names counts width n a i n' nameLens' names' counts'
+JoinCases None name_lens names counts width n a nameLens' names' counts' =
     (nameLens' ≡ name_lens) × (names' ≡ names) × (counts' ≡ counts) × (0 < width → Roomy name_lens names counts width n a → ⊥)
 
-pub record AfterJoin (name_lens names counts : List ℕ) (width n : ℕ) (a : Address) (r : Seat) (nameLens' names' counts' : List ℕ) : Type 0 where
+pub record AfterJoin (name_lens names counts : List ℕ) (width n : ℕ) (a : Address) (r : Option (ℕ × ℕ)) (nameLens' names' counts' : List ℕ) : Type 0 where
   pub is : JoinCases r name_lens names counts width n a nameLens' names' counts'
 
 -- the address is known, or is that of none of the n peers and was to join them
-abbrev pub SeatCases : Seat → (name_lens names counts : List ℕ) → (width n : ℕ) → Address → (nameLens' names' counts' : List ℕ) → Type 0
-SeatCases (At i n') name_lens names counts width n a nameLens' names' counts' =
+abbrev pub SeatCases : Option (ℕ × ℕ) → (name_lens names counts : List ℕ) → (width n : ℕ) → Address → (nameLens' names' counts' : List ℕ) → Type 0
+SeatCases (Some (i, n')) name_lens names counts width n a nameLens' names' counts' =
     Old name_lens names counts width n a i n' nameLens' names' counts'
     ⊎ ((N : ℕ → Address) → KeepsNames name_lens names width n N → Strange N n a) × New name_lens names counts width n a i n' nameLens' names' counts'
-SeatCases Full name_lens names counts width n a nameLens' names' counts' =
-    ((N : ℕ → Address) → KeepsNames name_lens names width n N → Strange N n a) × JoinCases Full name_lens names counts width n a nameLens' names' counts'
+SeatCases None name_lens names counts width n a nameLens' names' counts' =
+    ((N : ℕ → Address) → KeepsNames name_lens names width n N → Strange N n a) × JoinCases None name_lens names counts width n a nameLens' names' counts'
 
-pub record AfterSeat (name_lens names counts : List ℕ) (width n : ℕ) (a : Address) (r : Seat) (nameLens' names' counts' : List ℕ) : Type 0 where
+pub record AfterSeat (name_lens names counts : List ℕ) (width n : ℕ) (a : Address) (r : Option (ℕ × ℕ)) (nameLens' names' counts' : List ℕ) : Type 0 where
   pub is : SeatCases r name_lens names counts width n a nameLens' names' counts'

@@ -3,23 +3,18 @@
 #![tactic(auto)]
 
 ghost use Rattle.taking.specs.Answers.{AfterTake};
+ghost use Rattle.lent.specs.Parts.{StringsStay};
 ghost use Rattle.taking.specs.Inner.{AfterSeat, AfterJoin};
 
 use delivery::WORDS;
 use hosts::State;
-use peers::{Added, Peer};
+use lent::Strings;
+use limits::NoRoom;
 
-// The host's numbers after a message was taken, or that there is no room for it.
-#[derive(Clone, Copy)]
-pub enum Taken {
-    Now(State),
-    NoRoom,
-}
-
-// Takes the datagram with that number from an address, which is looked for first at the peer of the hint.
+// Takes the datagram with that number from an address, which is looked for first at the peer of the hint, and
+// answers the host's numbers after it.
 pub fn take(
-    name_lens: &mut [u64],
-    names: &mut [u8],
+    names: &mut Strings<&mut [u64], &mut [u8]>,
     counts: &mut [u64],
     room: &mut [u8],
     k: State,
@@ -27,82 +22,66 @@ pub fn take(
     number: u64,
     s: &[u8],
     hint: usize,
-) -> Taken
-    ensures { AfterTake name_lens.old names.old counts.old room.old k from.now number
-        s.now result name_lens.new names.new counts.new room.new }
+) -> Result<State, NoRoom>
+    ensures stays { StringsStay names.old names.new }
+    ensures is { AfterTake names.old.lens.now names.old.bytes.now counts.old room.old k from.now number
+        s.now result names.new.lens.now names.new.bytes.now counts.new room.new }
 {
     if room.len() < s.len() {
-        return Taken::NoRoom;
+        return Err(NoRoom);
     }
-    let Seat::At(i, peers) = seated(name_lens, names, counts, k.width, k.peers, from, hint) else {
-        return Taken::NoRoom;
+    let Some((i, peers)) = seated(names, counts, k.width, k.peers, from, hint) else {
+        return Err(NoRoom);
     };
     counting::take(counts, i, number);
     memory::copy(s, room, 0);
-    Taken::Now(State {
-        me: k.me,
-        hosts: k.hosts,
+    Ok(State {
         peers,
-        width: k.width,
-        size: k.size,
-        bounds: k.bounds,
-        entries: k.entries,
         len: s.len(),
         from: i,
-        transfers: k.transfers,
-        turns: k.turns,
+        ..k
     })
 }
 
-// The number of an address, and how many peers there are then; or that there is no place for a new one.
-#[derive(Clone, Copy)]
-enum Seat {
-    At(usize, usize),
-    Full,
-}
-
-// Which of n peers has that address? If none has, it becomes the next.
+// Which of n peers has that address? If none has, it becomes the next. Answers its number, and how many peers
+// there are then, or None if there is no place for a new one.
 fn seated(
-    name_lens: &mut [u64],
-    names: &mut [u8],
+    names: &mut Strings<&mut [u64], &mut [u8]>,
     counts: &mut [u64],
     width: usize,
     n: usize,
     from: &[u8],
     hint: usize,
-) -> Seat
-    ensures { AfterSeat name_lens.old names.old counts.old width n from.now result
-        name_lens.new names.new counts.new }
+) -> Option<(usize, usize)>
+    ensures stays { StringsStay names.old names.new }
+    ensures is { AfterSeat names.old.lens.now names.old.bytes.now counts.old width n from.now result
+        names.new.lens.now names.new.bytes.now counts.new }
 {
-    let found = finding::find_near(name_lens, names, width, n, from, hint);
-    match found {
-        Peer::Is(i) => Seat::At(i, n),
-        Peer::Unknown => join(name_lens, names, counts, width, n, from),
+    let seen = names.view();
+    match finding::find_near(seen.lens, seen.bytes, width, n, from, hint) {
+        Some(i) => Some((i, n)),
+        None => join(names, counts, width, n, from),
     }
 }
 
 // An address that none of n peers has becomes the next, if there are words for it and a place for its name.
 fn join(
-    name_lens: &mut [u64],
-    names: &mut [u8],
+    names: &mut Strings<&mut [u64], &mut [u8]>,
     counts: &mut [u64],
     width: usize,
     n: usize,
     from: &[u8],
-) -> Seat
-    ensures { AfterJoin name_lens.old names.old counts.old width n from.now result
-        name_lens.new names.new counts.new }
+) -> Option<(usize, usize)>
+    ensures stays { StringsStay names.old names.new }
+    ensures is { AfterJoin names.old.lens.now names.old.bytes.now counts.old width n from.now result
+        names.new.lens.now names.new.bytes.now counts.new }
 {
     if counts.len() / WORDS <= n {
-        return Seat::Full;
+        return None;
     }
-    let added = peers::add(name_lens, names, width, n, from);
-    match added {
-        Added::At(i) => {
-            counting::join(counts, n);
-            Seat::At(i, n + 1)
-        }
-        Added::Full => Seat::Full,
-        Added::TooLong => Seat::Full,
-    }
+    let Ok(i) = peers::add(names.lens, names.bytes, width, n, from) else {
+        return None;
+    };
+    counting::join(counts, n);
+    Some((i, n + 1))
 }

@@ -3,20 +3,17 @@
 
 ghost use Rattle.message.specs.Message.{delegate};
 ghost use Rattle.delegating.specs.Columns.{Columns, entered};
+ghost use Rattle.lent.specs.Parts.{PostStays};
 ghost use Rattle.sending.specs.Answers.{AfterSend};
 
 use keys::Bound;
-use message::Written;
-use peers::Where;
-use sending::Slot;
+use lent::{Post, Strings};
 
 // Writes the Delegate into place p and lets it wait there as the peer's message with that number.
 pub fn delegate(
-    name_lens: &[u64],
-    names: &[u8],
+    names: Strings<&[u64], &[u8]>,
     width: usize,
-    counts: &mut [u64],
-    places: &mut [u64],
+    post: &mut Post<&mut [u64]>,
     mail: &mut [u8],
     size: usize,
     peer: usize,
@@ -30,20 +27,21 @@ pub fn delegate(
     m: usize,
     bytes: &[u8],
 ) -> bool
-    ensures { AfterSend name_lens.now names.now width counts.old places.old mail.old
+    ensures stays { PostStays post.old post.new }
+    ensures is { AfterSend names.entry.lens.now names.entry.bytes.now width post.old.counts.now post.old.places.now mail.old
         size peer p number (λ n. Columns ks.now ats.now ls.now bytes.now m)
         (λ N. delegate lo hi (entered ks.now ats.now ls.now bytes.now 0 m)) result
-        counts.new places.new mail.new }
+        post.new.counts.now post.new.places.now mail.new }
 {
-    let Where::At(a, b) = peers::name(name_lens, names, width, peer) else {
+    let Some((a, b)) = peers::name(names.lens, names.bytes, width, peer) else {
         return false;
     };
-    let Slot::Between(from, to) = sending::lies(mail.len(), size, p) else {
+    let Some((from, to)) = sending::lies(mail.len(), size, p) else {
         return false;
     };
-    let written = delegating::delegate(
+    let Ok(len) = delegating::delegate(
         number,
-        &names[a..b],
+        &names.bytes[a..b],
         lo,
         hi,
         ks,
@@ -52,13 +50,9 @@ pub fn delegate(
         m,
         bytes,
         &mut mail[from..to],
-    );
-    match written {
-        Written::Bytes(len) => {
-            posting::post(counts, places, peer, p, number, len);
-            true
-        }
-        Written::NoRoom => false,
-        Written::Invalid => false,
-    }
+    ) else {
+        return false;
+    };
+    posting::post(post.counts, post.places, peer, p, number, len);
+    true
 }

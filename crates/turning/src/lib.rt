@@ -8,10 +8,12 @@ ghost use Rattle.turning.specs.Answers.{AfterTurn};
 use delivery::WORDS;
 use format::WIDTH;
 use hosts::State;
+use lent::{Index, Map, Post, Strings};
 use rounds::{Ended, Turned};
 
 // One turn. If it is one for receiving and a datagram has arrived, it is received; on the others it is not
-// looked at. The hint may be any number.
+// looked at. The hint may be any number. `arrived` stands beside the sender and the datagram, and not in an
+// Option, since C hands the three in like that.
 pub fn turn(
     lows: &mut [u64],
     owners: &mut [u64],
@@ -37,10 +39,7 @@ pub fn turn(
         k room.old arrived from.now s.now ack.old out.old result
         (memory lows.new owners.new keys.new slots.new lens.new values.new name_lens.new names.new counts.new places.new mail.new) room.new ack.new out.new }
 {
-    if ack.len() < 1 + WIDTH {
-        return rounds::unfit(k);
-    }
-    if out.len() < places.len() / WORDS {
+    if ack.len() < 1 + WIDTH || out.len() < places.len() / WORDS {
         return rounds::unfit(k);
     }
     let kind = k.turns % 3;
@@ -51,15 +50,27 @@ pub fn turn(
         );
     }
     if kind == 1 {
+        let addresses = Strings {
+            lens: &*name_lens,
+            bytes: &*names,
+        };
         let done = processing::process(
-            lows, owners, keys, slots, lens, values, name_lens, names, counts, places, mail, room,
-            k, hint,
+            &mut Map { lows, owners },
+            &mut Index { keys, slots },
+            &mut Strings {
+                lens,
+                bytes: values,
+            },
+            addresses,
+            &mut Post { counts, places },
+            mail,
+            room,
+            k,
+            hint,
         );
-        let state = done.state;
-        let outcome = done.outcome;
         return Ended {
-            state: rounds::over(state),
-            outcome: Turned::Did(outcome),
+            state: rounds::over(done.state),
+            outcome: Turned::Did(done.outcome),
             place: 0,
         };
     }

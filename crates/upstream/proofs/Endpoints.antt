@@ -4,7 +4,8 @@ use mathlib.Core.Path.{◌≡◌, refl, sym, ap, ◌∙◌}
 use mathlib.Core.Bool.{Bool, true, false, cond, false≢true}
 use mathlib.Core.List.{List}
 use mathlib.Core.Logic.{◌⊎◌, inl, inr, ⊎_elim, ◌↔◌}
-use mathlib.Core.Option.{Option, none, some, none-ne-some}
+use mathlib.Core.Option.{Option as Maybe, none, some, none-ne-some}
+use Rattle.std.specs.Prelude.{Option, Some, None}
 use Prim.Native.Nat.{ℕ, zero, suc, ◌+◌, ◌<◌}
 use native.Mathlib.Omega.{arith}
 use lib.Dec.{eqb}
@@ -13,8 +14,6 @@ use Rattle.message.specs.Message.{Address}
 use Rattle.decoding.specs.Decode.{same}
 use Rattle.decoding.proofs.Decided.{same_true, same_refl}
 use Rattle.protocol.proofs.Addresses.{at_same, at_other}
-use Rattle.peers.specs.declared.Peer.{Peer}
-use Rattle.peers.specs.declared.Peer.TheVariants.{Is, Unknown}
 use Rattle.peers.specs.Names.{Keeps, AfterFind, joined}
 use Rattle.delivery.specs.Post.{at}
 use Rattle.delivery.proofs.Laws.{at_same as number_same, at_other as number_other}
@@ -34,22 +33,22 @@ numbered N a (suc n) = ⊎_elim (λ r. let h = r.1 in inl (r.0, omega (arith, h)
         last i h q true w = absurd (false≢true (sym e ∙ ap (λ (x : Address). same x a) (ap N (sym (eqb-true i n w)) ∙ q) ∙ same_refl a))
         last i h q false w = let d = eqb-false i n w in f i (omega (arith, h, d)) q
 
-module _ {A : Type 0} {n : ℕ} {N : ℕ → Address} {f : ℕ → A} {m : Address → Option A} (M : Maps n N f m) where
+module _ {A : Type 0} {n : ℕ} {N : ℕ → Address} {f : ℕ → A} {m : Address → Maybe A} (M : Maps n N f m) where
   -- there is no other such map
-  pub endpoints_one : (m' : Address → Option A) → Maps n N f m' → (a : Address) → m a ≡ m' a
+  pub endpoints_one : (m' : Address → Maybe A) → Maps n N f m' → (a : Address) → m a ≡ m' a
   endpoints_one m' M' a = ⊎_elim
       (λ r. ap m (sym r.2) ∙ M.known r.0 r.1 ∙ sym (M'.known r.0 r.1) ∙ ap m' r.2)
       (λ r. M.unknown a r ∙ sym (M'.unknown a r))
       (numbered N a n)
 
   -- get: what is kept under the number that is found, or nothing where none is
-  abbrev pub Got : Peer → Address → Type 0
-  Got (Is i) a = m a ≡ some (f i)
-  Got Unknown a = m a ≡ none
+  abbrev pub Got : Option ℕ → Address → Type 0
+  Got (Some i) a = m a ≡ some (f i)
+  Got None a = m a ≡ none
 
-  pub endpoints_get : (lens names : List ℕ) (width : ℕ) (a : Address) (r : Peer) → AfterFind lens names width n a r → Keeps lens names width n N → Got r a
-  endpoints_get lens names width a (Is i) A K = let w = A.is N K in ap m (sym w.1) ∙ M.known i w.0
-  endpoints_get lens names width a Unknown A K = M.unknown a (A.is N K)
+  pub endpoints_get : (lens names : List ℕ) (width : ℕ) (a : Address) (r : Option ℕ) → AfterFind lens names width n a r → Keeps lens names width n N → Got r a
+  endpoints_get lens names width a (Some i) A K = let w = A.is N K in ap m (sym w.1) ∙ M.known i w.0
+  endpoints_get lens names width a None A K = M.unknown a (A.is N K)
 
   -- keys: an address is in the map exactly if it has a number
   pub endpoints_keys : (a : Address) → ((v : A) × (m a ≡ some v)) ↔ ((i : ℕ) × (i < n) × (N i ≡ a))

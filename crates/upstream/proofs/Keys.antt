@@ -6,14 +6,14 @@ use Prim.Native.Nat.{ℕ}
 use Rattle.keys.specs.Bound.{order}
 use Rattle.keys.specs.declared.Bound.{Bound}
 use Rattle.keys.specs.declared.Bound.TheVariants.{Key, End}
-use Rattle.keys.specs.declared.Order.{Order}
-use Rattle.keys.specs.declared.Order.TheVariants.{Less, Equal, Greater}
+use Rattle.std.specs.declared.cmp.Ordering.{Ordering}
+use Rattle.std.specs.declared.cmp.Ordering.TheVariants.{Less, Equal, Greater}
 use Rattle.keys.proofs.Laws.{order_less, end_above, order_refl, equal_order, order_sym, order_trans, order_flip, zero_less, order_connected, less_trans, less_le, le_less}
 use Rattle.upstream.specs.Keys.{AtMost, KeyTrait}
 
 -- ---- at most is not greater
 
-abbrev Told : Order → Type 0
+abbrev Told : Ordering → Type 0
 Told Less = Unit
 Told Equal = Unit
 Told Greater = ⊥
@@ -24,7 +24,7 @@ less_not_greater e = transport (ap Told e) tt
 equal_not_greater : Equal ≡ Greater → ⊥
 equal_not_greater e = transport (ap Told e) tt
 
-most_not_greater : (o : Order) → AtMost o → o ≡ Greater → ⊥
+most_not_greater : (o : Ordering) → AtMost o → o ≡ Greater → ⊥
 most_not_greater o (inl e) g = less_not_greater (sym e ∙ g)
 most_not_greater o (inr e) g = equal_not_greater (sym e ∙ g)
 

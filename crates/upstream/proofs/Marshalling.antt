@@ -14,7 +14,8 @@ use Rattle.message.specs.Table.{datagram, datagram_value, written, Valid}
 use Rattle.message.specs.View.{bytes_of, body_of}
 use Rattle.message.specs.Answers.{AfterParse}
 use Rattle.message.specs.declared.Parsed.{Parsed}
-use Rattle.message.specs.declared.Parsed.TheVariants.{Message, Ack, Invalid}
+use Rattle.message.specs.declared.Parsed.TheVariants.{Message, Ack}
+use Rattle.std.specs.Prelude.{Option, Some, None}
 use Rattle.message.proofs.Laws.{one_message, no_message_begins}
 use Rattle.decoding.specs.Decode.{good}
 use Rattle.decoding.proofs.Decided.{good_true, good_of}
@@ -47,22 +48,22 @@ datagram_marshalable = record {
 }
 
 -- the message that an answer names
-abbrev pub Names : List ℕ → Parsed → Datagram → Type 0
-Names s (Message n a b) d = message n (bytes_of s a) (body_of s b) ≡ d
-Names s (Ack n) d = ack n ≡ d
-Names s Invalid d = ⊥
+abbrev pub Names : List ℕ → Option Parsed → Datagram → Type 0
+Names s (Some (Message n a b)) d = message n (bytes_of s a) (body_of s b) ≡ d
+Names s (Some (Ack n)) d = ack n ≡ d
+Names s None d = ⊥
 
--- what `parsing::parse` answers is what upstream promises of a message that is not Invalid
-pub parse_demarshals : (s : List ℕ) (r : Parsed) → AfterParse s r → (d : Datagram) → Names s r d → Demarshalled s d
-parse_demarshals s (Message n a b) A d e =
+-- a message that `parsing::parse` answers is what upstream promises of one that is not Invalid
+pub parse_demarshals : (s : List ℕ) (r : Option Parsed) → AfterParse s r → (d : Datagram) → Names s r d → Demarshalled s d
+parse_demarshals s (Some (Message n a b)) A d e =
     subst (λ (z : Datagram). Demarshalled s z) e
     (record { is = A.is.0; there = sym A.is.1; only = λ m v q. one_message m (message n (bytes_of s a) (body_of s b)) v A.is.0 (sym q ∙ sym A.is.1) })
-parse_demarshals s (Ack n) A d e =
+parse_demarshals s (Some (Ack n)) A d e =
     subst (λ (z : Datagram). Demarshalled s z) e (record { is = A.is.0; there = sym A.is.1; only = λ m v q. one_message m (ack n) v A.is.0 (sym q ∙ sym A.is.1) })
-parse_demarshals s Invalid A d e = absurd e
+parse_demarshals s None A d e = absurd e
 
--- .. and Invalid is answered only for bytes that are no message, which upstream does not promise
-pub parse_refuses : (s : List ℕ) → AfterParse s Invalid → (d : Datagram) → Valid d → s ≡ written d → ⊥
+-- .. and None is answered only for bytes that are no message, which upstream does not promise of Invalid
+pub parse_refuses : (s : List ℕ) → AfterParse s None → (d : Datagram) → Valid d → s ≡ written d → ⊥
 parse_refuses s A d v e = A.is d v (sym e)
 
 -- ---- a part that was read

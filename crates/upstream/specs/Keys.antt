@@ -1,14 +1,14 @@
 -- Upstream's trait for keys, keys_t.KeyTrait, as its laws: over any type with a comparison. Its eq() is `Equal`, its lt() `Less`, its gt() `Greater`.
 -- Assumes nothing.
 use Rattle.std.specs.Prelude.{◌≡◌, ◌⊎◌, ◌↔◌}
-use Rattle.keys.specs.declared.Order.{Order}
-use Rattle.keys.specs.declared.Order.TheVariants.{Less, Equal, Greater}
+use Rattle.std.specs.declared.cmp.Ordering.{Ordering}
+use Rattle.std.specs.declared.cmp.Ordering.TheVariants.{Less, Equal, Greater}
 
 -- le()
-abbrev pub AtMost : Order → Type 0
+abbrev pub AtMost : Ordering → Type 0
 AtMost o = (o ≡ Less) ⊎ (o ≡ Equal)
 
-pub record KeyTrait (A : Type 0) (cmp : A → A → Order) (zero : A) : Type 0 where
+pub record KeyTrait (A : Type 0) (cmp : A → A → Ordering) (zero : A) : Type 0 where
   -- zero_properties
   pub least : (k : A) → (k ≡ zero → ⊥) → cmp zero k ≡ Less
   -- cmp_properties, clause by clause

@@ -4,50 +4,27 @@
 
 ghost use Rattle.values.specs.Answers.{ReadValue, ReadKeyed};
 
-use format::{NumberRead, TextRead, WIDTH};
-use message::ValueView;
+use format::{Part, WIDTH};
 
-#[derive(Clone, Copy)]
-pub enum ValueRead {
-    Is(ValueView, usize),
-    Missing,
-}
-
-#[derive(Clone, Copy)]
-pub enum KeyedRead {
-    Is(u64, ValueView, usize),
-    Missing,
-}
-
-// A value, or none.
-pub fn value(s: &[u8], at: usize) -> ValueRead
+// A value, or none, and the place behind it.
+pub fn value(s: &[u8], at: usize) -> Option<(Option<Part>, usize)>
     ensures { ReadValue s.now at result }
 {
-    if s.len() <= at {
-        return ValueRead::Missing;
+    match *s.get(at)? {
+        0 => Some((None, at + 1)),
+        1 => {
+            let part = format::text(s, at + 1)?;
+            Some((Some(part), part.at + part.len))
+        }
+        _ => None,
     }
-    let there = s[at];
-    if there == 0 {
-        return ValueRead::Is(ValueView::None, at + 1);
-    }
-    if there != 1 {
-        return ValueRead::Missing;
-    }
-    let TextRead::Is(part) = format::text(s, at + 1) else {
-        return ValueRead::Missing;
-    };
-    ValueRead::Is(ValueView::At(part), part.at + part.len)
 }
 
-// A key and its value, or none.
-pub fn keyed(s: &[u8], at: usize) -> KeyedRead
+// A key and its value, or none, and the place behind them.
+pub fn keyed(s: &[u8], at: usize) -> Option<(u64, Option<Part>, usize)>
     ensures { ReadKeyed s.now at result }
 {
-    let NumberRead::Is(k) = format::number(s, at) else {
-        return KeyedRead::Missing;
-    };
-    let ValueRead::Is(v, next) = value(s, at + WIDTH) else {
-        return KeyedRead::Missing;
-    };
-    KeyedRead::Is(k, v, next)
+    let k = format::number(s, at)?;
+    let (v, next) = value(s, at + WIDTH)?;
+    Some((k, v, next))
 }

@@ -1,17 +1,16 @@
 -- `acknowledging::ack` meets its contract.
 -- Assumes nothing.
-use Rattle.hosts.proofs.Arrivals.{find_as}
 use Rattle.acknowledging.proofs.Laws.{unknown, nothing_new, counted}
 use Rattle.acknowledging.proofs.ack.Goals as goal
 
-pub returns-in_default : goal.returns-in_default
-returns-in_default c =
-    unknown (find_as c.in_default.is c.find-found.ensures)
+pub returns-in_default-clause-is : goal.returns-in_default-clause-is
+returns-in_default-clause-is c =
+    unknown c.in_default.ensures
 
-pub returns-then-number-counts_of : goal.returns-then-number-counts_of
-returns-then-number-counts_of c =
-    nothing_new (find_as c.in-Is.is c.find-found.ensures) c.counts_of.ensures c.if-number-counts_of.true
+pub returns-then-number-counts_of-clause-is : goal.returns-then-number-counts_of-clause-is
+returns-then-number-counts_of-clause-is c =
+    nothing_new c.in-Some.ensures (rw c.view-seen.ensures.counts at c.counts_of.ensures) c.if-number-counts_of.true
 
-pub returns : goal.returns
-returns c =
-    counted (find_as c.in-Is.is c.find-found.ensures) c.counts_of.ensures c.if-number-counts_of.false c.confirm.ensures
+pub returns-clause-is : goal.returns-clause-is
+returns-clause-is c =
+    counted c.in-Some.ensures (rw c.view-seen.ensures.counts at c.counts_of.ensures) c.if-number-counts_of.false c.confirm.ensures

@@ -2,8 +2,9 @@
 -- Assumes nothing.
 use mathlib.Core.Path.{◌≡◌, refl}
 use mathlib.Core.List.{List, ◌++◌}
-use Prim.Native.Nat.{ℕ, ◌+◌, ◌≤◌, ◌<◌}
+use Prim.Native.Nat.{ℕ, ◌+◌, ◌<◌}
 use native.Mathlib.Omega.{arith}
+use Rattle.std.proofs.lemmas.Result.{err_from_is_err_and}
 use lib.ListN.{length, length-append}
 use Rattle.format.specs.Number.{width, numbers}
 use Rattle.format.specs.Format.{number, maybe, pair, encode, counted}
@@ -11,7 +12,7 @@ use Rattle.memory.proofs.Copies.{copied_then}
 use Rattle.message.specs.Message.{shard}
 use Rattle.message.specs.Table.{range, address, key_of}
 use Rattle.keys.specs.declared.Bound.{Bound}
-use Rattle.fronts.proofs.Fronts.{start_as, start_length, fields_written, fields_no_room, fields_no_address, message_written}
+use Rattle.fronts.proofs.Fronts.{start_length, fields_written, fields_refused, message_written}
 use Rattle.format.proofs.Clear.{length_counted}
 use Rattle.asking.proofs.shard.Goals as goal
 
@@ -23,56 +24,28 @@ long lo hi v x y p q =
     let h : List ℕ = encode (maybe number) (key_of hi) in
     omega (arith, p, q, length-append (l ++ h) (counted v), length-append l h, length_counted v)
 
-pub returns-then-address-ge-BYTES_MAX : goal.returns-then-address-ge-BYTES_MAX
-returns-then-address-ge-BYTES_MAX c = record { is = (refl, λ g. omega (arith, c.if-address-ge-BYTES_MAX.true, g.1.1.1.1.1.0)) }
-
-pub overflow_add-at : goal.overflow_add-at
-overflow_add-at c =
-    let s = (start_as c.in-At.is c.begin-begun.ensures).is in
-    omega (arith, s.2, c.ranges)
-
-pub overflow_add-at-in-At : goal.overflow_add-at-in-At
-overflow_add-at-in-At c =
-    let s = (start_as c.in-At.is c.begin-begun.ensures).is in
-    omega (arith, s.2, c.ranges)
-
-pub overflow_add-result : goal.overflow_add-result
-overflow_add-result c =
+pub returns-in_err-at : goal.returns-in_err-at
+returns-in_err-at c =
     let a = c.args in
-    let s = (start_as c.in-At.is c.begin-begun.ensures).is in
-    let p : ℕ = c.in-At.at in
-    let h : p + (c.bound_length-low.result + c.bound_length.result + (width + length a.address.now)) ≤ length a.d.now = s.2 in
-    omega (arith, h, c.ranges, c.well_formed)
+    let known : a.n < numbers = omega arith in
+    let l = long a.lo a.hi a.address.now _ _ c.bound_length-low.ensures.0 c.bound_length.ensures.0 in
+    let p = err_from_is_err_and c.from_residual.result c.from_residual.ensures.1 in
+    rw (p.1, p.2)
+    (message_written (shard a.lo a.hi a.address.now) a.n a.to.now 4 ((key_of a.lo, key_of a.hi), a.address.now) a.d.now known (omega arith) refl (fields_refused (pair range address) ((key_of a.lo, key_of a.hi), a.address.now) a.n a.to.now 4 _ a.d.now l _ c.in_err-at.ensures))
 
-pub returns-in-At : goal.returns-in-At
-returns-in-At c =
+pub returns : goal.returns
+returns c =
     let a = c.args in
-    let s = start_as c.in-At.is c.begin-begun.ensures in
+    let s = c.in_ok-at.ensures in
     let p = c.bound_length-low.ensures.0 in
     let q = c.bound_length.ensures.0 in
     let u = length_counted a.address.now in
     let lo : List ℕ = encode (maybe number) (key_of a.lo) in
     let hi : List ℕ = encode (maybe number) (key_of a.hi) in
     let both : length (lo ++ hi) ≡ length lo + length hi = length-append lo hi in
-    let known : a.n < numbers = omega (arith, c.ranges) in
-    let short : length a.address.now < numbers = omega (arith, c.ranges) in
+    let known : a.n < numbers = omega arith in
+    let short : length a.address.now < numbers = omega arith in
     let l = long a.lo a.hi a.address.now _ _ p q in
-    let x = copied_then lo hi _ _ _ _ _ (omega (arith, p)) (omega (arith, p, q, s.is.2, start_length s)) c.bound.ensures.0 c.bound-in-At.ensures.0 in
+    let x = copied_then lo hi _ _ _ _ _ (omega (arith, p)) (omega (arith, p, q, s.is.2, start_length s)) c.bound.ensures.0 c.bound-2.ensures.0 in
     let w = copied_then (lo ++ hi) _ _ _ _ _ _ (omega (arith, p, q, both)) (omega (arith, p, q, u, both, s.is.2, start_length s)) x c.text.ensures in
-    message_written (shard a.lo a.hi a.address.now) a.n a.to.now 4 ((key_of a.lo, key_of a.hi), a.address.now) a.d.now known (omega arith) refl (fields_written (pair range address) ((key_of a.lo, key_of a.hi), a.address.now) a.n a.to.now 4 _ a.d.now l s ((c.bound.ensures.1, c.bound-in-At.ensures.1), (c.if-address-ge-BYTES_MAX.false, short)) w)
-
-pub returns-in-NoRoom : goal.returns-in-NoRoom
-returns-in-NoRoom c =
-    let a = c.args in
-    let s = start_as c.in-NoRoom.is c.begin-begun.ensures in
-    let known : a.n < numbers = omega (arith, c.ranges) in
-    let l = long a.lo a.hi a.address.now _ _ c.bound_length-low.ensures.0 c.bound_length.ensures.0 in
-    message_written (shard a.lo a.hi a.address.now) a.n a.to.now 4 ((key_of a.lo, key_of a.hi), a.address.now) a.d.now known (omega arith) refl (fields_no_room (pair range address) ((key_of a.lo, key_of a.hi), a.address.now) a.n a.to.now 4 _ a.d.now l s)
-
-pub returns-in-Invalid : goal.returns-in-Invalid
-returns-in-Invalid c =
-    let a = c.args in
-    let s = start_as c.in-Invalid.is c.begin-begun.ensures in
-    let known : a.n < numbers = omega (arith, c.ranges) in
-    let l = long a.lo a.hi a.address.now _ _ c.bound_length-low.ensures.0 c.bound_length.ensures.0 in
-    message_written (shard a.lo a.hi a.address.now) a.n a.to.now 4 ((key_of a.lo, key_of a.hi), a.address.now) a.d.now known (omega arith) refl (fields_no_address (pair range address) ((key_of a.lo, key_of a.hi), a.address.now) a.n a.to.now 4 _ a.d.now l s)
+    message_written (shard a.lo a.hi a.address.now) a.n a.to.now 4 ((key_of a.lo, key_of a.hi), a.address.now) a.d.now known (omega arith) refl (fields_written (pair range address) ((key_of a.lo, key_of a.hi), a.address.now) a.n a.to.now 4 _ a.d.now l s ((c.bound.ensures.1, c.bound-2.ensures.1), (c.if-address-ge-BYTES_MAX.false, short)) w)

@@ -1,7 +1,5 @@
--- `audits::valid` meets its contract. Each test that fails contradicts a field of `Keeps`. If none fails, the table is the one that the
--- entries make.
+-- `audits::valid` meets its contract. If no test fails, the table is the one that the entries make.
 -- Assumes nothing.
-use mathlib.Core.Bool.{false≢true}
 use mathlib.Core.List.{List}
 use Prim.Native.Nat.{ℕ, ◌<◌}
 use native.Mathlib.Omega.{arith}
@@ -10,30 +8,6 @@ use Rattle.records.specs.Memory.{value_at}
 use Rattle.records.specs.Table.{empty, storing}
 use Rattle.records.proofs.Laws.{made_listed}
 use Rattle.audits.proofs.valid.Goals as goal
-
-pub returns-then-not-fits : goal.returns-then-not-fits
-returns-then-not-fits c =
-    let f = c.fits in
-    record { yes = λ e. absurd (false≢true e); no = λ e T k. f.ensures.no c.if-not-fits.true k.shape }
-
-pub returns-then-not-rises : goal.returns-then-not-rises
-returns-then-not-rises c =
-    let r = c.rises in
-    record {
-      yes = λ e. absurd (false≢true e);
-      no = λ e T k. r.ensures.no c.if-not-rises.true (omega (arith, k.shape.count, k.shape.fits_keys)) k.listed.rising;
-    }
-
-pub returns-then-not-permuted : goal.returns-then-not-permuted
-returns-then-not-permuted c =
-    let p = c.permuted in
-    record { yes = λ e. absurd (false≢true e); no = λ e T k. p.ensures.no c.if-not-permuted.true k.slotted }
-
-pub all_short-requires : goal.all_short-requires
-all_short-requires c =
-    let f = c.fits in
-    let shape = f.ensures.yes c.if-not-fits.false in
-    shape.count
 
 pub returns : goal.returns
 returns c =

@@ -1,6 +1,6 @@
 -- `counting::join` meets its contract.
 -- Assumes nothing.
-use mathlib.Core.Path.{◌≡◌, refl, sym, ◌∙◌}
+use mathlib.Core.Path.{◌≡◌, sym, ◌∙◌}
 use Prim.Native.Nat.{◌*◌, ◌+◌, ◌<◌}
 use native.Mathlib.Omega.{arith}
 use lib.ListN.{length, get_or, set, length-set}
@@ -8,20 +8,6 @@ use mathlib.Core.Bool.{false≢true}
 use lib.Seq.{get_or-set_same, get_or-set_other}
 use Rattle.delivery.proofs.Laws.{keeps_joined}
 use Rattle.counting.proofs.join.Goals as goal
-
-pub returns-then-counts-n : goal.returns-then-counts-n
-returns-then-counts-n c =
-    record { done = λ e. absurd (false≢true e); full = λ e. (refl, omega (arith, c.if-counts-n.true)) }
-
-pub bounds-counts-n-2 : goal.bounds-counts-n-2
-bounds-counts-n-2 c =
-    let a = c.args in
-    omega (arith, c.if-counts-n.false, length-set a.counts.now (a.n * 3) 0)
-
-pub bounds-counts-n-3 : goal.bounds-counts-n-3
-bounds-counts-n-3 c =
-    let a = c.args in
-    omega (arith, c.if-counts-n.false, length-set (set a.counts.now (a.n * 3) 0) (a.n * 3 + 1) 0, length-set a.counts.now (a.n * 3) 0)
 
 pub returns : goal.returns
 returns c =

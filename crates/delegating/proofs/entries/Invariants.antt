@@ -8,8 +8,5 @@ use Rattle.sizes.specs.Sizes.{sizes}
 use Rattle.delegating.proofs.entries.Given as goal
 
 abbrev pub invariant-loop-i : goal.invariant-loop-i
-invariant-loop-i l = (l.i ≤ l.m) × (length l.d ≡ length l.initial.d) × (l.at + sizes l.lens l.i (l.m - l.i) ≤ length l.d)
+invariant-loop-i l = (length l.d ≡ length l.initial.d) × (l.at + sizes l.lens l.i (l.m - l.i) ≤ length l.d)
     × (placed l.d l.at (rows (entered l.keys l.ats l.lens l.bytes l.i (l.m - l.i))) ≡ placed l.initial.d l.from (rows (entered l.keys l.ats l.lens l.bytes 0 l.m)))
-
-abbrev pub decreases-loop-i : goal.decreases-loop-i
-decreases-loop-i l = l.m - l.i

@@ -1,13 +1,10 @@
 use mathlib.Core.Path.{◌≡◌}
-use Prim.Native.Nat.{ℕ, ◌-◌, ◌≤◌, ◌<◌}
+use Prim.Native.Nat.{ℕ, ◌<◌}
 use lib.ListN.{length}
 use Rattle.strings.specs.Strings.{WellFormed}
 use Rattle.distinct.specs.Distinct.{string}
 use Rattle.distinct.proofs.distinct.Given as goal
 
 abbrev pub invariant-loop-i : goal.invariant-loop-i
-invariant-loop-i l = (l.i ≤ l.m) × WellFormed l.ats l.lens l.m (length l.bytes)
+invariant-loop-i l = WellFormed l.ats l.lens l.m (length l.bytes)
     × ((j : ℕ) → j < l.i → (k : ℕ) → k < j → string l.ats l.lens l.bytes k ≡ string l.ats l.lens l.bytes j → ⊥)
-
-abbrev pub decreases-loop-i : goal.decreases-loop-i
-decreases-loop-i l = l.m - l.i

@@ -1,31 +1,38 @@
--- `entries::replace` meets its contract. A list that is refused leaves memory as it was.
+-- `entries::replace` meets its contract. What is left is counted first, so after the range is removed every entry finds a place.
 -- Assumes nothing.
-use mathlib.Core.Path.{◌≡◌, refl, subst}
-use mathlib.Core.List.{List}
-use Prim.Native.Nat.{ℕ}
-use Rattle.entered.specs.Entered.{CheckCases}
-use Rattle.entered.specs.declared.Look.{Look}
+use mathlib.Core.Path.{refl}
+use native.Mathlib.Omega.{arith}
+use lib.ListN.{get_or}
+use Rattle.records.specs.Table.{removed}
+use Rattle.memory.specs.Bytes.{part}
 use Rattle.entries.proofs.replace.Goals as goal
 
--- what the look found, at the answer that was matched
-at-look : (ks ats ls bytes : List ℕ) (m : ℕ) (r s : Look) → r ≡ s → CheckCases r ks ats ls bytes m → CheckCases s ks ats ls bytes m
-at-look ks ats ls bytes m r s e A = subst (λ (x : Look). CheckCases x ks ats ls bytes m) e A
-
-pub enter-requires : goal.enter-requires
-enter-requires c =
+pub returns-then-slots-left : goal.returns-then-slots-left
+returns-then-slots-left c =
     let a = c.args in
-    at-look a.ks.now a.ats.now a.ls.now a.bytes.now a.m _ _ c.in-Fine.is c.check-look.ensures.is
-
-pub returns-in-Bad : goal.returns-in-Bad
-returns-in-Bad c =
-    let a = c.args in
+    let p = c.in_ok-check.ensures.is.0 in
+    let l = c.left in
     record {
-      is = (refl, refl, refl, refl, at-look a.ks.now a.ats.now a.ls.now a.bytes.now a.m _ _ c.in-Bad.is c.check-look.ensures.is);
+      is = (
+        refl,
+        refl,
+        refl,
+        refl,
+        λ T K val.
+            (l.result, l.ensures.is a.slots.now a.lens.now a.values.now T K p.fits_keys p.rising val, c.if-slots-left.true),
+      );
     }
 
-pub returns-in-Long : goal.returns-in-Long
-returns-in-Long c =
+pub returns : goal.returns
+returns c =
     let a = c.args in
+    let p = c.in_ok-check.ensures.is in
+    let l = c.left in
+    let r = c.remove-rest in
+    let s = c.store-now in
     record {
-      is = (refl, refl, refl, refl, at-look a.ks.now a.ats.now a.ls.now a.bytes.now a.m _ _ c.in-Long.is c.check-look.ensures.is);
+      is = λ T K. s.ensures.is (removed a.lo a.hi T) (r.ensures.is a.lens.now a.values.now T K) p.0 p.1 l.result
+          (l.ensures.is a.slots.now a.lens.now a.values.now T K p.0.fits_keys p.0.rising
+          (λ i. part a.bytes.now (get_or a.ats.now i 0) (get_or a.ls.now i 0)))
+          (omega (arith, c.if-slots-left.false, r.auto.slots));
     }

@@ -12,16 +12,13 @@ use Rattle.format.specs.Number.{width, digits}
 use Rattle.format.specs.Format.{counted}
 use Rattle.format.proofs.Numbers.{length_digits}
 use Rattle.fronts.proofs.begin.Goals as goal
+use Rattle.fronts.proofs.begin.Goals.{then-d-head-via-then-d-head, then-d-head-via-else-d-head+then-d-head-2}
 
 pub returns-then-d-head : goal.returns-then-d-head
 returns-then-d-head c =
     let a = c.args in
-    record { is = (refl, omega (arith, c.if-d-head.true, length_front a.n a.to.now a.kind)) }
-
-pub returns-then-d-head-2 : goal.returns-then-d-head-2
-returns-then-d-head-2 c =
-    let a = c.args in
-    record { is = (refl, omega (arith, c.if-d-head-2.true, c.if-d-head.false, length_front a.n a.to.now a.kind)) }
+    let e = length_front a.n a.to.now a.kind in
+    record { is = (refl, elim c.then-d-head.branch [ then-d-head-via-then-d-head w ↦ omega arith | then-d-head-via-else-d-head+then-d-head-2 w ↦ omega arith ]) }
 
 pub returns : goal.returns
 returns c =

@@ -4,11 +4,12 @@ use native.Mathlib.Omega.{arith}
 use Rattle.handing.proofs.Steps.{too_many, offered}
 use Rattle.handing.proofs.offer.Goals as goal
 
-pub returns-in_default : goal.returns-in_default
-returns-in_default c =
-    too_many c.pick.ensures c.in_default.is (omega arith) c.dropped.ensures
+pub returns-in_default-clause-is : goal.returns-in_default-clause-is
+returns-in_default-clause-is c =
+    let v = c.view-table.ensures in
+    too_many (rw (v.keys, v.slots) at c.in_default.ensures) (omega arith) c.dropped.ensures
 
-pub returns : goal.returns
-returns c =
-    offered c.pick.ensures c.in-Count.is (omega arith) c.ks-2-1.given c.ats-2-1.given c.ls-2-1.given
-    c.hand.ensures
+pub returns-clause-is : goal.returns-clause-is
+returns-clause-is c =
+    let v = c.view-table.ensures in
+    offered (rw (v.keys, v.slots) at c.in-Ok.ensures) (omega arith) (omega arith) (omega arith) (omega arith) c.hand.ensures.is

@@ -1,13 +1,12 @@
 -- `hearing::last` meets its contract.
 -- Assumes nothing.
-use Rattle.hosts.proofs.Arrivals.{find_as}
 use Rattle.hearing.proofs.Laws.{last_known, last_unknown}
 use Rattle.hearing.proofs.last.Goals as goal
 
-pub returns-in-Is : goal.returns-in-Is
-returns-in-Is c =
-    last_known (find_as c.in-Is.is c.find-found.ensures) c.counts_of.ensures
+pub returns-in-Some : goal.returns-in-Some
+returns-in-Some c =
+    last_known c.in-Some.ensures c.counts_of.ensures
 
-pub returns-in-Unknown : goal.returns-in-Unknown
-returns-in-Unknown c =
-    last_unknown (find_as c.in-Unknown.is c.find-found.ensures)
+pub returns-in-None : goal.returns-in-None
+returns-in-None c =
+    last_unknown c.in-None.ensures

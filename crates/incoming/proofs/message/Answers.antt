@@ -4,18 +4,17 @@ use Rattle.incoming.proofs.Laws.{handled_as}
 use Rattle.incoming.proofs.Messages.{elsewhere, again, future, passed_on}
 use Rattle.incoming.proofs.message.Goals as goal
 
-pub returns-in-Elsewhere : goal.returns-in-Elsewhere
-returns-in-Elsewhere c =
-    λ lens values mail. handled_as c.left.ensures (elsewhere c.sort-kind.ensures c.in-Elsewhere.is lens values mail)
+pub returns-in-Elsewhere-clause-is : goal.returns-in-Elsewhere-clause-is
+returns-in-Elsewhere-clause-is c =
+    λ lens values mail. handled_as c.left.ensures (elsewhere (rw (c.view.ensures.lens, c.view.ensures.bytes) at c.in-Elsewhere.ensures) lens values mail)
 
-pub returns-in-Again : goal.returns-in-Again
-returns-in-Again c =
-    λ lens values mail. handled_as c.left-in-Again.ensures (again c.sort-kind.ensures c.in-Again.is c.ack.ensures lens values mail)
+pub returns-in-Again-clause-is : goal.returns-in-Again-clause-is
+returns-in-Again-clause-is c =
+    λ lens values mail. handled_as c.left-in-Again.ensures (again (rw (c.view.ensures.lens, c.view.ensures.bytes) at c.in-Again.ensures) c.ack.ensures lens values mail)
 
-pub returns-in-Future : goal.returns-in-Future
-returns-in-Future c =
-    λ lens values mail. handled_as c.left-in-Future.ensures (future c.sort-kind.ensures c.in-Future.is lens values mail)
+pub returns-in-Future-clause-is : goal.returns-in-Future-clause-is
+returns-in-Future-clause-is c =
+    λ lens values mail. handled_as c.left-in-Future.ensures (future (rw (c.view.ensures.lens, c.view.ensures.bytes) at c.in-Future.ensures) lens values mail)
 
-pub returns-in-Next : goal.returns-in-Next
-returns-in-Next c =
-    passed_on c.sort-kind.ensures c.in-Next.is c.fresh.ensures
+pub returns-in-Next-clause-is : goal.returns-in-Next-clause-is
+returns-in-Next-clause-is c = passed_on (rw (c.view.ensures.lens, c.view.ensures.bytes) at c.in-Next.ensures) c.fresh.ensures.is

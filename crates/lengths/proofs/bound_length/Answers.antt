@@ -1,6 +1,5 @@
 -- `lengths::bound_length` meets its contract.
 -- Assumes nothing.
-use mathlib.Core.Path.{refl}
 use native.Mathlib.Omega.{arith}
 use Rattle.format.specs.Number.{width}
 use Rattle.format.proofs.Numbers.{length_digits}
@@ -8,6 +7,3 @@ use Rattle.lengths.proofs.bound_length.Goals as goal
 
 pub returns-in-Key : goal.returns-in-Key
 returns-in-Key c = rw c.in-Key.is (omega (arith, length_digits width c.in-Key.field-0), omega arith)
-
-pub returns-in-End : goal.returns-in-End
-returns-in-End c = rw c.in-End.is (refl, omega arith)

@@ -1,30 +1,30 @@
 -- `lists::rows` meets its contract.
 -- Assumes nothing.
+use mathlib.Core.Path.{◌≡◌}
+use Prim.Native.Nat.{◌+◌, ◌-◌}
 use native.Mathlib.Omega.{arith}
-use Rattle.lists.proofs.Answers.{row_as}
 use Rattle.format.proofs.Listing.{leads_start, leads_more, leads_low, leads_lacks, leads_end}
 use Rattle.lists.proofs.rows.Goals as goal
 
-pub loop-left-init : goal.loop-left-init
-loop-left-init c = (leads_start _ _ _, c.requires)
+pub returns-in_err-key : goal.returns-in_err-key
+returns-in_err-key c = rw c.from_residual.ensures (record { is = leads_lacks c.loop-i.invariant.0 (omega (arith, c.loop-i-test.true)) c.in_err-key.ensures.is })
 
-pub returns-in_default : goal.returns-in_default
-returns-in_default c = record { is = leads_lacks c.loop-left.invariant.0 c.loop-left-test.true (row_as c.in_default.is c.row.ensures).is }
+pub loop-i-init : goal.loop-i-init
+loop-i-init c =
+    let all : c.args.count - 0 ≡ c.args.count = omega arith in
+    rw all (leads_start _ _ _, c.requires)
 
 pub returns-then-not-rises : goal.returns-then-not-rises
 returns-then-not-rises c =
-    let k = (row_as c.in-Is.is c.row.ensures).is in
-    record { is = leads_low c.loop-left.invariant.0 c.loop-left-test.true k.1 (c.rises.ensures.1 c.if-not-rises.true) }
+    let k = c.in_ok-key.ensures.is in
+    record { is = leads_low c.loop-i.invariant.0 (omega (arith, c.loop-i-test.true)) k.1 (c.rises.ensures.1 c.if-not-rises.true) }
 
-pub overflow_add-at : goal.overflow_add-at
-overflow_add-at c =
-    let k = (row_as c.in-Is.is c.row.ensures).is in
-    omega (arith, k.1.within, c.ranges)
-
-pub loop-left-preserved : goal.loop-left-preserved
-loop-left-preserved c =
-    let k = (row_as c.in-Is.is c.row.ensures).is in
-    (leads_more c.loop-left.invariant.0 c.loop-left-test.true k.1 (c.rises.ensures.0 c.if-not-rises.false), k.1.within)
+pub loop-i-preserved : goal.loop-i-preserved
+loop-i-preserved c =
+    let k = c.in_ok-key.ensures.is in
+    let one : c.args.count - c.loop-i._i - 1 ≡ c.args.count - (c.loop-i._i + 1) = omega arith in
+    let more = leads_more c.loop-i.invariant.0 (omega (arith, c.loop-i-test.true)) k.1 (c.rises.ensures.0 c.if-not-rises.false) in
+    rw (← one) (more, k.1.within)
 
 pub returns : goal.returns
-returns c = record { is = leads_end c.loop-left.invariant.0 (omega (arith, c.loop-left-test.false)) c.loop-left.invariant.1 }
+returns c = record { is = leads_end c.loop-i.invariant.0 (omega (arith, c.loop-i-test.false)) c.loop-i.invariant.1 }

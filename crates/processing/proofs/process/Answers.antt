@@ -1,26 +1,16 @@
 -- `processing::process` meets its contract.
 -- Assumes nothing.
-use mathlib.Core.Path.{ap}
 use native.Mathlib.Omega.{arith}
-use Rattle.processing.proofs.Laws.{is_message, nothing, too_long, no_message, letters}
+use Rattle.processing.proofs.Laws.{is_ack, is_none, letters}
 use Rattle.processing.proofs.process.Goals as goal
 
-pub returns-then-k-eq0 : goal.returns-then-k-eq0
-returns-then-k-eq0 c =
-    nothing c.if-k-eq0.true c.staying.ensures
+pub returns-in-Some-Message-clause-is : goal.returns-in-Some-Message-clause-is
+returns-in-Some-Message-clause-is c =
+    letters (omega (arith, c.if-k-eq0.false)) (rw c.in-Some-Message.field-0-is at c.in-Some-Message.ensures) c.row.ensures.is
 
-pub returns-then-room-k : goal.returns-then-room-k
-returns-then-room-k c =
-    too_long (omega (arith, c.if-k-eq0.false)) (omega (arith, c.if-room-k.true)) c.staying-then-room-k.ensures
+pub returns-in-Some-Ack-clause-is : goal.returns-in-Some-Ack-clause-is
+returns-in-Some-Ack-clause-is c =
+    is_ack (omega (arith, c.if-k-eq0.false)) (rw c.in-Some-Ack.field-0-is at c.in-Some-Ack.ensures) c.staying-in-Some-Ack.ensures
 
-pub returns-in-Message : goal.returns-in-Message
-returns-in-Message c =
-    letters c.in-Message.is (omega (arith, c.if-k-eq0.false)) c.parse-parsed.ensures c.row.ensures
-
-pub returns-in-Ack : goal.returns-in-Ack
-returns-in-Ack c =
-    no_message (omega (arith, c.if-k-eq0.false)) c.parse-parsed.ensures (ap is_message c.in-Ack.is) c.staying-in-Ack.ensures
-
-pub returns-in-Invalid : goal.returns-in-Invalid
-returns-in-Invalid c =
-    no_message (omega (arith, c.if-k-eq0.false)) c.parse-parsed.ensures (ap is_message c.in-Invalid.is) c.staying-in-Invalid.ensures
+pub returns-in-None-clause-is : goal.returns-in-None-clause-is
+returns-in-None-clause-is c = is_none (omega (arith, c.if-k-eq0.false)) c.in-None.ensures c.staying-in-None.ensures

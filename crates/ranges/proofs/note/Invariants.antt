@@ -1,7 +1,8 @@
+-- What is written at each place passed is the entry's.
 use mathlib.Core.Path.{◌≡◌}
 use mathlib.Core.List.{List}
 use mathlib.Core.Option.{some}
-use Prim.Native.Nat.{ℕ, ◌+◌, ◌-◌, ◌≤◌, ◌<◌}
+use Prim.Native.Nat.{ℕ, ◌+◌, ◌≤◌, ◌<◌}
 use lib.ListN.{length, get_or}
 use Rattle.records.specs.Table.{Table}
 use Rattle.memory.specs.Bytes.{part}
@@ -14,9 +15,5 @@ Stands keys slots lens values n p at len =
     (at + len ≤ length values) × ((T : Table) → Keeps keys slots lens values n T → T (get_or keys p 0) ≡ some (part values at len))
 
 abbrev pub invariant-loop-y : goal.invariant-loop-y
-invariant-loop-y l = (length l.to_keys ≡ length l.initial.to_keys) × (length l.to_ats ≡ length l.initial.to_ats) × (length l.to_lens ≡ length l.initial.to_lens)
-    × ((k : ℕ) → k < l.y → get_or l.to_keys k 0 ≡ get_or l.keys (l.i + k) 0)
+invariant-loop-y l = ((k : ℕ) → k < l.y → get_or l.to_keys k 0 ≡ get_or l.keys (l.i + k) 0)
     × ((k : ℕ) → k < l.y → Stands l.keys l.slots l.lens l.values l.n (l.i + k) (get_or l.to_ats k 0) (get_or l.to_lens k 0))
-
-abbrev pub decreases-loop-y : goal.decreases-loop-y
-decreases-loop-y l = l.m - l.y

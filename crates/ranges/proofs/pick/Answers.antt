@@ -15,7 +15,7 @@ use Rattle.searches.specs.Search.{Before}
 use Rattle.ranges.specs.Inner.{Noted}
 use Rattle.records.proofs.Tables.{window_listed, listed_cong}
 use Rattle.records.proofs.Slotted.{in_keys}
-use Rattle.records.proofs.Ranges.{range_in, range_out, window_none}
+use Rattle.records.proofs.Ranges.{range_in, range_out}
 use Rattle.ranges.proofs.pick.Goals as goal
 
 module _ (keys slots lens values : List ℕ) (n : ℕ) (lo hi : Bound) (i j : ℕ) (I : Before keys n lo i) (J : Before keys n hi j) (ij : i < j) (T : Table)
@@ -42,27 +42,6 @@ module _ (keys slots lens values : List ℕ) (n : ℕ) (lo hi : Bound) (i j : �
             let b : i + y < n = omega (arith, J.least) in
             some-injective _ _ (sym (K.listed.has (i + y) b) ∙ N.value T K y q)
 
-pub returns-then-keys-n : goal.returns-then-keys-n
-returns-then-keys-n c = record {
-  is = (omega arith, (λ i q. absurd (omega arith)), λ T K. absurd (omega (arith, c.if-keys-n.true, in_keys _ _ _ _ _ _ K)));
-}
-
-pub returns-then-last-first : goal.returns-then-last-first
-returns-then-last-first c =
-    let a = c.args in
-    let i = c.before-first in
-    let j = c.before-last in
-    record {
-      is = (
-        omega arith,
-        (λ x q. absurd (omega arith)),
-        λ T K.
-            window_none a.n (λ x. get_or a.keys.now x 0) (value_at a.slots.now a.lens.now a.values.now) T K.listed (holds a.lo a.hi)
-            (λ x q. range_out a.keys.now a.n (in_keys _ _ _ _ _ _ K) K.listed.rising a.lo a.hi i.result j.result i.ensures j.ensures x q (λ p r. omega (arith, c.if-last-first.true)))
-            _ _,
-      );
-    }
-
 pub returns-then-to_keys-m : goal.returns-then-to_keys-m
 returns-then-to_keys-m c =
     let a = c.args in
@@ -75,39 +54,7 @@ returns-then-to_keys-m c =
         refl,
         λ T K.
             more a.keys.now a.slots.now a.lens.now a.values.now a.n a.lo a.hi i.result j.result i.ensures j.ensures c.if-last-first.false T K
-            _ (omega (arith, c.if-to_keys-m.true)),
-      );
-    }
-
-pub returns-then-to_ats-m : goal.returns-then-to_ats-m
-returns-then-to_ats-m c =
-    let a = c.args in
-    let i = c.before-first in
-    let j = c.before-last in
-    record {
-      is = (
-        refl,
-        refl,
-        refl,
-        λ T K.
-            more a.keys.now a.slots.now a.lens.now a.values.now a.n a.lo a.hi i.result j.result i.ensures j.ensures c.if-last-first.false T K
-            _ (omega (arith, c.if-to_ats-m.true)),
-      );
-    }
-
-pub returns-then-to_lens-m : goal.returns-then-to_lens-m
-returns-then-to_lens-m c =
-    let a = c.args in
-    let i = c.before-first in
-    let j = c.before-last in
-    record {
-      is = (
-        refl,
-        refl,
-        refl,
-        λ T K.
-            more a.keys.now a.slots.now a.lens.now a.values.now a.n a.lo a.hi i.result j.result i.ensures j.ensures c.if-last-first.false T K
-            _ (omega (arith, c.if-to_lens-m.true)),
+            _ (omega (arith, c.then-to_keys-m.either)),
       );
     }
 

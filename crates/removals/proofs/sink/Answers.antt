@@ -1,57 +1,57 @@
--- `removals::sink` meets its contract. The loop's invariant: those from j up to `from` stand from i on, those before i and from `from` on as
--- at first, and the slots are a permutation if they were. Each turn swaps two places. The measure is what is left.
+-- `removals::sink` meets its contract. The part from i up to n is turned: those from j on come first, and a permutation stays one.
 -- Assumes nothing.
-use mathlib.Core.Path.{◌≡◌, refl, ap, ◌∙◌}
-use mathlib.Core.Logic.{⊎_elim}
-use mathlib.Core.List.{List}
-use Prim.Native.Nat.{ℕ, ◌+◌, ◌<◌}
+use mathlib.Core.Path.{◌≡◌, sym, ap, ◌∙◌, subst}
+use mathlib.Core.List.{List, [], ◌∷◌, ◌++◌}
+use Prim.Native.Nat.{ℕ, ◌+◌, ◌-◌, ◌≤◌, ◌<◌}
 use native.Mathlib.Omega.{arith}
-use lib.ListN.{length, get_or, length-set}
-use Rattle.columns.proofs.Cases.{lt_or_ge}
-use Rattle.removals.proofs.Swap.{swapped, length_swapped, swap_first, swap_other, swap_slots}
+use lib.ListN.{length, take, drop, get_or, get_or-append}
+use lib.Seq.{length-take-le, get_or-append-add, get_or-take, get_or-drop}
+use borrow.Rule.Slice.PartMut.{mid_of, post_of, put_mid, mid_len}
+use Rattle.std.specs.List.{swap, RotatedLeft}
+use Rattle.std.proofs.lemmas.Grind.{get_or_default_zero}
+use Rattle.std.proofs.lemmas.List.Sorted.{IsPermutation-keeps, IsPermutation-put_mid}
+use Rattle.records.specs.Memory.{Slots}
+use Rattle.removals.proofs.Swap.{swapped, swap_slots}
 use Rattle.removals.proofs.sink.Goals as goal
 
-pub loop-from-init : goal.loop-from-init
-loop-from-init c = (omega arith, omega arith, omega arith, refl, λ x p. refl, λ y p. absurd (omega arith), λ x p. refl, λ s. s)
+swap_is : (l : List ℕ) (a b : ℕ) → a < length l → b < length l → swap l a b ≡ swapped l a b
+swap_is [] a b p q = absurd (omega arith)
+swap_is (d ∷ l) a b p q = rw (get_or_default_zero (d ∷ l) b d q, get_or_default_zero (d ∷ l) a d p)
 
-pub bounds-slots-from-in-loop-from : goal.bounds-slots-from-in-loop-from
-bounds-slots-from-in-loop-from c =
-    let l = c.loop-from in
-    let h : l.from < length l.slots = omega arith in
-    simp length-set h
+module _ (s : List ℕ) (n i j : ℕ) (ij : i ≤ j) (jn : j ≤ n) (ns : n ≤ length s) (t : List ℕ) (long : length t ≡ length (mid_of i (n - i) s)) where
+  turned : List ℕ
+  turned = put_mid i (n - i) s t
 
-pub loop-from-preserved : goal.loop-from-preserved
-loop-from-preserved c =
-    let l = c.loop-from in
-    let a = c.args in
-    let s : List ℕ = l.slots in
-    let t : ℕ = l.to in
-    let f : ℕ = l.from in
-    let hf : f < a.n = c.loop-from-test.true in
-    let pf : f < length s = omega arith in
-    let pt : t < length s = omega arith in
-    let other : (x : ℕ) → (x ≡ t → ⊥) → (x ≡ f → ⊥) → get_or (swapped s t f) x 0 ≡ get_or s x 0 = swap_other s t f pt pf in (
-      omega arith,
-      omega arith,
-      omega arith,
-      length_swapped s t f ∙ l.invariant.3,
-      λ x p. other x (omega arith) (omega arith) ∙ l.invariant.4 x p,
-      λ y p.
-          ⊎_elim
-          (λ q. other (a.i + y) (omega arith) (omega arith) ∙ l.invariant.5 y q)
-          (λ q.
-          let e : a.i + y ≡ t = omega arith in
-          let d : f ≡ a.j + y = omega arith in
-          ap (λ (x : ℕ). get_or (swapped s t f) x 0) e ∙ swap_first s t f pt pf ∙ l.invariant.6 f (omega arith) ∙ ap (λ (x : ℕ). get_or a.slots.now x 0) d)
-          (lt_or_ge (a.j + y) f),
-      λ x p. other x (omega arith) (omega arith) ∙ l.invariant.6 x (omega arith),
-      λ h. swap_slots s t f pt pf (l.invariant.7 h),
-    )
+  front : length (take i s) ≡ i
+  front = length-take-le i s (omega arith)
 
-pub shape_of-slots : goal.shape_of-slots
-shape_of-slots c = c.loop-from.invariant.3
+  before : (x : ℕ) → x < i → get_or turned x 0 ≡ get_or s x 0
+  unfolding turned
+  before x p = get_or-append (take i s) (t ++ post_of i (n - i) s) 0 x (omega (arith, front)) ∙ get_or-take i s x 0 p
+
+  after : RotatedLeft (mid_of i (n - i) s) t (length (mid_of i (n - i) s)) (j - i) → (y : ℕ) → j + y < n → get_or turned (i + y) 0 ≡ get_or s (j + y) 0
+  unfolding turned
+  after r y p =
+      let m : length (mid_of i (n - i) s) ≡ n - i = mid_len i n s ns in
+      let e : i + (y + (j - i)) ≡ j + y = omega arith in
+      ap (λ (k : ℕ). get_or turned (k + y) 0) (sym front)
+      ∙ get_or-append-add (take i s) (t ++ post_of i (n - i) s) y 0
+      ∙ get_or-append t (post_of i (n - i) s) 0 y (omega (arith, m, long))
+      ∙ r.0 y 0 (omega (arith, m))
+      ∙ get_or-take (n - i) (drop i s) (y + (j - i)) 0 (omega arith)
+      ∙ get_or-drop i s (y + (j - i)) 0
+      ∙ ap (λ (k : ℕ). get_or s k 0) e
 
 pub returns : goal.returns
+unfolding turned
 returns c =
-    let l = c.loop-from in
-    record { before = l.invariant.4; after = λ y p. l.invariant.5 y (omega arith); keeps = l.invariant.7 }
+    let a = c.args in
+    let s : List ℕ = a.slots.now in
+    let t = c.rotate_left.new.self in
+    let r = c.rotate_left.ensures in
+    record {
+      before = before s a.n a.i a.j c.requires.0 c.requires.1 c.requires.2 t r.len;
+      after = after s a.n a.i a.j c.requires.0 c.requires.1 c.requires.2 t r.len r.by_index;
+      keeps = λ k. IsPermutation-keeps s Slots k (λ l x y p q h. subst Slots (sym (swap_is l x y p q)) (swap_slots l x y p q h)) _
+          (IsPermutation-put_mid a.i (a.n - a.i) s t r.permutation);
+    }

@@ -1,43 +1,33 @@
--- `searches::upto` meets its contract. The loop's invariant: those before lo lie at or below the key and those from hi on above it, if the column
--- rises. The measure is what lies between.
+-- `searches::upto` meets its contract. In a column that rises, those at or below the key come first.
 -- Assumes nothing.
-use mathlib.Core.Path.{◌≡◌}
-use Prim.Native.Nat.{◌+◌, ◌-◌, ◌/◌}
+use mathlib.Core.List.{List}
+use Prim.Native.Nat.{ℕ}
 use native.Mathlib.Omega.{arith}
-use Rattle.columns.proofs.Columns.{half_low, half_high}
+use lib.Dec.{leb}
+use lib.ListN.{take}
+use lib.Seq.{get_or-take}
+use borrow.Author.Tests.{leb-true, leb-false}
+use Rattle.std.proofs.Common.{rules}
+use Rattle.std.proofs.lemmas.List.Sorted.{IsPartitionPoint-from_clause, IsPartitionedBy-leb, IsNonDecreasingBy-from_default}
+use Rattle.searches.proofs.Front.{front_length, front_rises}
 use Rattle.searches.proofs.upto.Goals as goal
-use Rattle.searches.proofs.upto.Goals.{else-column-n, then-column-n}
-
-pub loop-lo-init : goal.loop-lo-init
-loop-lo-init c =
-    elim c.if-column-n.branch [ then-column-n w ↦ (omega arith, omega arith, omega arith, λ l r. ((λ i p. absurd (omega arith)), (λ i p q. absurd (omega arith)))) | else-column-n w ↦ (omega arith, omega arith, omega arith, λ l r. ((λ i p. absurd (omega arith)), (λ i p q. absurd (omega arith)))) ]
-
-pub loop-lo-preserved-then-column-mid : goal.loop-lo-preserved-then-column-mid
-loop-lo-preserved-then-column-mid c =
-    let v = c.loop-lo in
-    let a = c.args in (
-      omega arith,
-      omega arith,
-      omega arith,
-      λ l r. (half_low a.column.now a.n a.key (v.lo + (v.hi - v.lo) / 2) r (omega arith) c.if-column-mid.true, (v.invariant.3 l r).1),
-    )
-
-pub loop-lo-preserved : goal.loop-lo-preserved
-loop-lo-preserved c =
-    let v = c.loop-lo in
-    let a = c.args in (
-      omega arith,
-      omega arith,
-      omega arith,
-      λ l r. ((v.invariant.3 l r).0, half_high a.column.now a.n a.key (v.lo + (v.hi - v.lo) / 2) r c.if-column-mid.false),
-    )
 
 pub returns : goal.returns
 returns c =
-    let v = c.loop-lo in
-    let e : v.lo ≡ v.hi = omega arith in
+    let s : List ℕ = c.args.column.now in
+    let n : ℕ = c.args.n in
+    let m : ℕ = c.min.result in
+    let l = front_length s n m c.min.ensures in
+    let p = c.partition_point.ensures in
     record {
-      within = omega arith;
-      inside = omega arith;
-      splits = λ l r. record { within = omega arith; low = (v.invariant.3 l r).0; high = rw e (v.invariant.3 l r).1 };
+      within = omega (arith, p.bound);
+      inside = omega (arith, p.bound);
+      splits = λ h r.
+          let parted = IsPartitionedBy-leb (λ x. x) (take m s) c.args.key (IsNonDecreasingBy-from_default (λ x. x) (take m s) 0 (front_rises s n m c.min.ensures h r)) in
+          let point = IsPartitionPoint-from_clause (λ y. leb y c.args.key) (take m s) _ p.partitioned parted (λ a r q k. search rules) in
+          record {
+            within = omega (arith, p.bound);
+            low = λ i q. leb-true _ _ (rw (get_or-take m s i 0 (omega (arith, p.bound))) at (point.0 i 0 (omega arith) q));
+            high = λ i q t. leb-false _ _ (rw (get_or-take m s i 0 (omega arith)) at (point.1 i 0 q (omega arith)));
+          };
     }

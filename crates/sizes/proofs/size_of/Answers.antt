@@ -1,46 +1,19 @@
 -- `sizes::size_of` meets its contract.
 -- Assumes nothing.
-use mathlib.Core.Path.{◌≡◌, refl}
+use mathlib.Core.Path.{◌≡◌}
 use Prim.Native.Nat.{◌+◌, ◌-◌}
 use native.Mathlib.Omega.{arith}
-use Rattle.sizes.specs.Sizes.{sizes}
+use lib.ListN.{get_or}
+use Rattle.std.proofs.lemmas.List.{get_or-take}
 use Rattle.sizes.proofs.Laws.{sizes_step}
 use Rattle.sizes.proofs.size_of.Goals as goal
 
-pub returns-then-lens-m : goal.returns-then-lens-m
-returns-then-lens-m c = record { is = λ h. absurd (omega (arith, h, c.if-lens-m.true)) }
-
-pub loop-i-init : goal.loop-i-init
-loop-i-init c =
-    let e : c.args.m - 0 ≡ c.args.m = omega arith in
-    (omega arith, c.if-lens-m.false, omega arith, rw e refl)
-
-pub returns-then-total : goal.returns-then-total
-returns-then-total c =
+pub loop-len-preserved : goal.loop-len-preserved
+loop-len-preserved c =
     let a = c.args in
-    let i = c.loop-i.i in
-    let t = sizes_step a.lens.now i (a.m - i) (omega (arith, c.loop-i-test.true)) in
-    record { is = λ h. omega (arith, t, c.loop-i.invariant.3, c.loop-i.invariant.2, c.if-total.true) }
-
-pub returns-then-total-len : goal.returns-then-total-len
-returns-then-total-len c =
-    let a = c.args in
-    let i = c.loop-i.i in
-    let t = sizes_step a.lens.now i (a.m - i) (omega (arith, c.loop-i-test.true)) in
-    record { is = λ h. omega (arith, t, c.loop-i.invariant.3, c.loop-i.invariant.2, c.if-total-len.true, c.if-total.false) }
-
-pub loop-i-preserved : goal.loop-i-preserved
-loop-i-preserved c =
-    let a = c.args in
-    let i = c.loop-i.i in
-    let t = sizes_step a.lens.now i (a.m - i) (omega (arith, c.loop-i-test.true)) in
+    let i = c.loop-len.len-index in
+    let k = c.in_ok-len-items.ensures.lookup.0 in
+    let here : get_or c.in_ok-len-items.len-items.now i 0 ≡ get_or a.lens.now i 0 = rw k.2 (get_or-take (a.m - 0) a.lens.now i 0 (omega arith)) in
+    let t = sizes_step a.lens.now i (a.m - i) (omega arith) in
     let e : a.m - (i + 1) ≡ a.m - i - 1 = omega arith in
-    (omega (arith, c.loop-i-test.true), c.loop-i.invariant.1, omega (arith, c.loop-i.invariant.2, c.if-total-len.false, c.if-total.false), rw e (omega (arith, t, c.loop-i.invariant.3)))
-
-pub returns : goal.returns
-returns c =
-    let a = c.args in
-    let i = c.loop-i.i in
-    let e : a.m - i ≡ 0 = omega (arith, c.loop-i-test.false) in
-    let s : sizes a.lens.now i (a.m - i) ≡ 0 = rw e refl in
-    record { is = λ h. (omega (arith, s, c.loop-i.invariant.3), c.loop-i.invariant.2) }
+    (omega arith, rw e (omega (arith, t)))

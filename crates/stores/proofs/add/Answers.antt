@@ -1,21 +1,11 @@
 -- `stores::add` meets its contract. The value goes into the first free slot, and key and slot are inserted at place p.
 -- Assumes nothing.
-use mathlib.Core.Path.{◌≡◌, refl}
 use Prim.Native.Nat.{◌≤◌, ◌<◌}
 use native.Mathlib.Omega.{arith}
 use native.Mathlib.Numerals.{add-one}
 use lib.ListN.{length}
-use Rattle.records.proofs.Slotted.{keeps_add, place_room}
+use Rattle.records.proofs.Slotted.{keeps_add}
 use Rattle.stores.proofs.add.Goals as goal
-
-pub returns-then-not-write : goal.returns-then-not-write
-returns-then-not-write c =
-    let a = c.args in
-    let w = c.write in
-    let f = w.ensures.refused c.if-not-write.true in
-    record {
-      is = (refl, refl, f.0, f.1, λ T K. absurd (f.2 (place_room a.keys.now a.slots.now a.lens.now a.values.now a.n T K a.n (let q : a.n ≡ length a.slots.now → ⊥ = c.if-n-slots.false in omega (arith, K.shape.count)))));
-    }
 
 pub returns : goal.returns
 returns c =

@@ -1,60 +1,36 @@
 -- `transferring::delegate` meets its contract.
 -- Assumes nothing.
-use mathlib.Core.Path.{◌≡◌, refl, subst}
+use mathlib.Core.Path.{◌≡◌, refl}
 use mathlib.Core.List.{List}
 use Prim.Native.Nat.{ℕ}
 use native.Mathlib.Omega.{arith}
+use Rattle.std.specs.Prelude.{Err}
 use Rattle.message.specs.Message.{Datagram}
-use Rattle.message.specs.declared.Written.{Written}
-use Rattle.delegating.specs.Columns.{AfterDelegate}
-use Rattle.sending.proofs.Laws.{name_as, slot_as, no_name, no_place, no_room, no_message, sent}
+use Rattle.message.specs.Answers.{AfterWrite}
+use Rattle.message.specs.declared.Refused.{Refused}
+use Rattle.message.specs.declared.Refused.TheVariants.{NoRoom, Invalid}
+use Rattle.delegating.specs.Columns.{Columns, AfterDelegate}
+use Rattle.sending.proofs.Laws.{no_name, unwritten_if, sent}
 use Rattle.transferring.proofs.delegate.Goals as goal
 
--- what the writer said of its answer holds of an answer that is equal to it
-delegate-as : {ks ats ls bytes : List ℕ} {m : ℕ} {w : Datagram} {d d' : List ℕ} {r s : Written} → r ≡ s → AfterDelegate ks ats ls bytes m w d r d'
-    → AfterDelegate ks ats ls bytes m w d s d'
-delegate-as {ks} {ats} {ls} {bytes} {m} {w} {d} {d'} e h = subst (λ (r : Written). AfterDelegate ks ats ls bytes m w d r d') e h
+-- what the writer refuses is as it was, and a list is refused as every message is
+module _ {ks ats ls bytes : List ℕ} {m : ℕ} {w : Datagram} {d d' : List ℕ} where
+  kept : (e : Refused) → AfterDelegate ks ats ls bytes m w d (Err e) d' → d' ≡ d
+  kept NoRoom A = A.is.1.0
+  kept Invalid A = A.is.0
 
-pub returns-in_default : goal.returns-in_default
-returns-in_default c =
-    no_name (name_as c.in_default.is c.name.ensures)
+  why : (e : Refused) → AfterDelegate ks ats ls bytes m w d (Err e) d' → Columns ks ats ls bytes m → AfterWrite w d (Err e) d'
+  why NoRoom A C = record { is = A.is.1 }
+  why Invalid A C = record { is = (A.is.0, A.is.1 C) }
 
-pub returns-in_default-lies : goal.returns-in_default-lies
-returns-in_default-lies c =
-    no_place (slot_as c.in_default-lies.is c.lies.ensures)
+pub returns-in_default-clause-is : goal.returns-in_default-clause-is
+returns-in_default-clause-is c = no_name c.in_default.ensures
 
-pub slice_bounds-delegate-count : goal.slice_bounds-delegate-count
-slice_bounds-delegate-count c =
-    omega (arith, (name_as c.in-At.is c.name.ensures).is.0)
+pub returns-in_default-delegate-clause-is : goal.returns-in_default-delegate-clause-is
+returns-in_default-delegate-clause-is c =
+    let A = c.in_default-delegate.ensures in
+    unwritten_if c.in-Some.ensures c.in-Some-lies.ensures (λ n N K q. refl) _ (kept _ A) (λ n C. why _ A C)
 
-pub slice_bounds-delegate-count-2 : goal.slice_bounds-delegate-count-2
-slice_bounds-delegate-count-2 c =
-    omega (arith, (slot_as c.in-Between.is c.lies.ensures).is.1)
-
-pub returns-in-Bytes : goal.returns-in-Bytes
-returns-in-Bytes c =
-    sent
-    (name_as c.in-At.is c.name.ensures)
-    (slot_as c.in-Between.is c.lies.ensures)
-    (λ n N K q. refl)
-    c.mail-1.given.0
-    (record { is = (delegate-as c.in-Bytes.is c.delegate-written.ensures).is.1 })
-    c.post.ensures
-
-pub returns-in-NoRoom : goal.returns-in-NoRoom
-returns-in-NoRoom c =
-    no_room
-    (name_as c.in-At.is c.name.ensures)
-    (slot_as c.in-Between.is c.lies.ensures)
-    (λ n N K q. refl)
-    (record { is = (delegate-as c.in-NoRoom.is c.delegate-written.ensures).is.1 })
-
-pub returns-in-Invalid : goal.returns-in-Invalid
-returns-in-Invalid c =
-    let w = delegate-as c.in-Invalid.is c.delegate-written.ensures in
-    no_message
-    (name_as c.in-At.is c.name.ensures)
-    (slot_as c.in-Between.is c.lies.ensures)
-    (λ n N K q. refl)
-    w.is.0
-    (λ n q. w.is.1 q)
+pub returns-clause-is : goal.returns-clause-is
+returns-clause-is c =
+    sent c.in-Some.ensures c.in-Some-lies.ensures (λ n N K q. refl) (omega arith) (record { is = c.in-Ok.ensures.is.1 }) c.post.ensures

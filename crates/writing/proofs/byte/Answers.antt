@@ -2,12 +2,9 @@
 -- Assumes nothing.
 use mathlib.Core.List.{[], ◌∷◌}
 use native.Mathlib.Omega.{arith}
-use Rattle.memory.proofs.Copies.{copied_yes, copied_no}
+use Rattle.memory.proofs.Copies.{copied_yes}
 use lib.Seq.{sets-eq}
 use Rattle.writing.proofs.byte.Goals as goal
-
-pub returns-then-d-at : goal.returns-then-d-at
-returns-then-d-at c = copied_no _ _ _ (omega (arith, c.if-d-at.true))
 
 pub returns : goal.returns
 returns c = copied_yes _ _ _ _ (omega (arith, c.if-d-at.false)) (sets-eq (_ ∷ []) c.args.d.now c.args.at (omega (arith, c.if-d-at.false)))
