@@ -2,6 +2,7 @@
 // function hands on what it is given to the crate of its name, which reads the host's numbers from twelve words,
 // takes one step, writes the numbers back and answers what became of it as a number; include/tagshards.h says all
 // of it in C's words. They stand here together because an archive has the functions of one crate.
+// C knows neither a struct of slices nor an Option, so slices stand side by side, and `arrived` beside the datagram.
 #![tactic(auto)]
 
 mod audit;

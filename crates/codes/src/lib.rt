@@ -1,4 +1,5 @@
 // What became of a step, as a number, and the place of the datagram to send.
+// They are functions and no `From`: what became of a step and u64 are both types of other crates.
 #![tactic(auto)]
 
 ghost use Rattle.std.specs.Prelude.{◌≡◌};

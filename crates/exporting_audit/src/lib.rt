@@ -1,4 +1,5 @@
 // Does memory keep a host, with its numbers in lent words?
+// C lends plain slices, so they stand side by side here and are no parts yet.
 #![tactic(auto)]
 
 ghost use Rattle.hosts.specs.Memory.{memory};

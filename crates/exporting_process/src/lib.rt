@@ -1,4 +1,5 @@
 // The message in the room is processed, by a host whose numbers stand in lent words.
+// C lends plain slices, so they stand side by side here and are no parts yet.
 #![tactic(auto)]
 
 ghost use Rattle.hosts.specs.Memory.{memory};

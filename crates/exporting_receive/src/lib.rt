@@ -1,4 +1,5 @@
 // A datagram arrives at a host whose numbers stand in lent words.
+// C lends plain slices, so they stand side by side here and are no parts yet.
 #![tactic(auto)]
 
 ghost use Rattle.std.specs.Prelude.{List, ℕ};

@@ -1,4 +1,5 @@
 // The waiting messages go out again, from a host whose numbers stand in lent words.
+// C lends plain slices, so they stand side by side here and are no parts yet.
 #![tactic(auto)]
 
 ghost use Rattle.exporting_retransmit.specs.Answers.{Repeating};

@@ -1,4 +1,5 @@
 // A host is started, and its numbers are written into lent words.
+// C lends plain slices, so they stand side by side here and are no parts yet.
 #![tactic(auto)]
 
 ghost use Rattle.hosts.specs.Memory.{memory};

@@ -1,4 +1,5 @@
 // Answers as numbers. A refusal is one of the largest numbers, which no count and no place comes near.
+// They are functions and no `From`: the answers and u64 are types of other crates.
 use keys::Bound;
 use limits::NoRoom;
 

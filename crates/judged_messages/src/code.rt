@@ -1,5 +1,6 @@
 // Bounds from numbers, and the answers of writers as numbers. A refusal is one of the largest numbers, which
 // no length comes near.
+// They are functions and no `From`: the answers and u64 are types of other crates.
 use keys::Bound;
 use message::Refused;
 

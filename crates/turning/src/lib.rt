@@ -42,6 +42,7 @@ pub fn turn(
     if ack.len() < 1 + WIDTH || out.len() < places.len() / WORDS {
         return rounds::unfit(k);
     }
+    // the count tells the kind of the turn; the three take different slices, so no table of closures is plainer
     let kind = k.turns % 3;
     if kind == 0 {
         return arriving::arrive(
