@@ -39,7 +39,15 @@ fn fresh(slots: &[u64], i: usize) -> bool
     ensures { Fresh slots.now i result }
 {
     let s = slots[i];
-    s < slots.len() as u64 && !slots[..i].contains(&s)
+    if slots.len() as u64 <= s {
+        return false;
+    }
+    for j in 0..i {
+        if slots[j] == s {
+            return false;
+        }
+    }
+    true
 }
 
 // Is no value of the first n entries too long?

@@ -7,7 +7,7 @@ use Prim.Native.Nat.{ℕ, zero, suc, ◌+◌, ◌-◌, ◌≤◌, ◌<◌}
 use native.Mathlib.Omega.{arith}
 use native.Mathlib.Numerals.{add-one}
 use Rattle.columns.proofs.Cases.{lt_or_ge}
-use lib.ListN.{length, take, drop, get_or, set, length-append, length-drop, get_or-append}
+use lib.ListN.{length, take, drop, get_or, set, length-append, length-drop, get_or-append, take-append-drop}
 use Rattle.std.specs.List.{copy_within}
 use Rattle.std.proofs.lemmas.List.{drop-take}
 use lib.Seq.{slice, set_split, take-append-le, take-take, drop_at, length-take-le, length-slice, get_or-append-add, get_or-take, get_or-drop}
@@ -81,6 +81,13 @@ module _ (c : List ℕ) (n at v : ℕ) (h : at ≤ n) (l : n < length c) where
 pub cut_moved : (c : List ℕ) (n i j : ℕ) → j ≤ n → copy_within c j n i ≡ without c n i j
 cut_moved c n i j h = rw (moved_part c j n h) (append_assoc (take i c) (slice j n c) (drop (i + (n - j)) c))
 
+-- nothing taken out
+pub cut_none : (c : List ℕ) (n i : ℕ) → i ≤ n → n ≤ length c → without c n i i ≡ c
+cut_none c n i h l =
+    let e : i + (n - i) ≡ n = omega arith in
+    rw (e, ← append_assoc (take i c) (slice i n c) (drop n c), ← take-take i n c h, take-append-drop i (take n c))
+    (take-append-drop n c)
+
 pub length_without : (c : List ℕ) (n i j : ℕ) → i ≤ j → j ≤ n → n ≤ length c → length (without c n i j) ≡ length c
 length_without c n i j h k l =
     let il : i ≤ length c = omega arith in
@@ -125,6 +132,26 @@ splits_mono c n k m r s h p q = ⊎_elim (λ w. absurd (less w)) (λ w. w) (lt_o
         let sn : s < n = omega (arith, p.within) in
         let sl : s ≤ s = omega arith in
         omega (arith, q.high s sl sn, p.low s w)
+
+-- a key that is not the last of those at or below it is not there
+pub splits_absent : (c : List ℕ) (n k r : ℕ) → Rising c n → Splits c n k r → (0 < r → get_or c (r - 1) 0 ≡ k → ⊥) → (x : ℕ) → x < n → get_or c x 0 ≡ k → ⊥
+splits_absent c n k r R S h x q e =
+    ⊎_elim
+    (λ w. ⊎_elim
+    (λ u. omega (arith, R x (r - 1) u (omega (arith, S.within)), S.low (r - 1) (omega arith)))
+    (λ u. let f : r - 1 ≡ x = omega arith in h (omega arith) (ap (λ (t : ℕ). get_or c t 0) f ∙ e))
+    (lt_or_ge x (r - 1)))
+    (λ w. omega (arith, S.high x w q))
+    (lt_or_ge x r)
+
+-- what the middle element tells of those on one side of it
+pub half_low : (c : List ℕ) (n k mid : ℕ) → Rising c n → mid < n → get_or c mid 0 ≤ k → (i : ℕ) → i < mid + 1 → get_or c i 0 ≤ k
+half_low c n k mid r m h i p =
+    ⊎_elim (λ w. omega (arith, r i mid w m)) (λ w. let e : i ≡ mid = omega arith in rw e h) (lt_or_ge i mid)
+
+pub half_high : (c : List ℕ) (n k mid : ℕ) → Rising c n → k < get_or c mid 0 → (i : ℕ) → mid ≤ i → i < n → k < get_or c i 0
+half_high c n k mid r h i p q =
+    ⊎_elim (λ w. omega (arith, r mid i w q)) (λ w. let e : i ≡ mid = omega arith in rw e h) (lt_or_ge mid i)
 
 -- neighbours that rise make a column that rises
 pub rising_next : (c : List ℕ) (n : ℕ) → ((k : ℕ) → k + 1 < n → get_or c k 0 < get_or c (k + 1) 0) → Rising c n

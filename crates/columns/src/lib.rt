@@ -25,7 +25,9 @@ pub fn cut(column: &mut [u64], n: usize, i: usize, j: usize) -> bool
     if column.len() < n || n < j || j < i {
         return false;
     }
-    column.copy_within(j..n, i);
+    if i < j {
+        column.copy_within(j..n, i);
+    }
     true
 }
 

@@ -10,10 +10,14 @@
 // `grants` does it.
 #![tactic(auto)]
 
+ghost use Rattle.std.specs.Prelude.{◌≤◌, ◌<◌, ℕ, length, get_or};
 ghost use Rattle.columns.specs.Column.{Upto};
 ghost use Rattle.delegation.specs.Map.{AfterStart, Enough, Owner};
 
 use limits::NoRoom;
+
+// At most so many bounds are looked through one by one.
+const NEAR: usize = 16;
 
 // All keys to one owner. Answers how many bounds there are then.
 pub fn start(lows: &mut [u64], owners: &mut [u64], owner: u64) -> Result<usize, NoRoom>
@@ -45,9 +49,34 @@ pub fn enough(lows: &[u64], owners: &[u64], n: usize) -> bool
     0 < n && n <= lows.len() && n <= owners.len()
 }
 
-// How many of the n bounds lie at or below the key.
+// How many of the n bounds lie at or below the key. The first bounds are looked through one by one, and then one
+// twice as far from the front as the last, or the last there is, until a bound lies above the key; a search by halving
+// has those between the two. So a key of the first bounds is found at once, however many there are.
 pub fn upto(lows: &[u64], n: usize, key: u64) -> usize
     ensures { Upto lows.now n key result }
 {
-    searches::upto(lows, n, key)
+    let end = n.min(lows.len());
+    let near = end.min(NEAR);
+    for i in 0..near {
+        if key < lows[i] {
+            return i;
+        }
+    }
+    beyond(lows, end, near, key)
+}
+
+// The same, where the bounds before `near` lie at or below the key.
+fn beyond(lows: &[u64], end: usize, near: usize, key: u64) -> usize
+    requires { (near ≤ end) × (end ≤ length lows.now) × ((i : ℕ) → i < near → get_or lows.now i 0 ≤ key) }
+    ensures { Upto lows.now end key result }
+{
+    let mut known = near;
+    while known < end {
+        let far = known + known.max(1).min(end - known);
+        if key < lows[far - 1] {
+            return known + searches::upto(&lows[known..far - 1], far - 1 - known, key);
+        }
+        known = far;
+    }
+    known
 }

@@ -1,6 +1,6 @@
 // A turn of a host whose numbers stand in lent words: the three kinds of step in rotation.
-// C lends plain slices, so they stand side by side here and are no parts yet. It says by `arrived` whether there is a
-// datagram, so that is no Option either.
+// C lends plain slices, so they stand side by side here and are no parts yet. It says by `arrived` whether anything
+// has come in, so that is no Option either.
 #![tactic(auto)]
 
 ghost use Rattle.hosts.specs.Memory.{memory};

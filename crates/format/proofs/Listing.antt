@@ -7,7 +7,7 @@ use native.Mathlib.Omega.{arith}
 use lib.ListN.{length, take, drop, length-append}
 use lib.Seq.{drop-drop, drop_at, take_at}
 use Rattle.memory.specs.Bytes.{part}
-use Rattle.format.specs.Number.{width, digits, worth}
+use Rattle.format.specs.Number.{width, numbers, digits, worth}
 use Rattle.format.specs.Format.{number, entries, Entry, counted, rows, listing, encode, Above, Small, Good}
 use Rattle.format.specs.Place.{Stands, Lacks, listed, row, Rest, NoRest, Leads}
 use Rattle.format.proofs.Numbers.{length_digits, worth_is}
@@ -177,6 +177,21 @@ module _ {s : List ℕ} {at n : ℕ} (limit : ℕ) (counts : Stands number s at 
       → (length l ≡ n) × (rows l ++ rest ≡ drop (at + width) s)
   numbered l g rest e = only counts (length l) g.0 (rows l ++ rest) (e ∙ append_assoc (digits width (length l)) (rows l) rest)
 
+  pub entries_found : {l : List Entry} {next : ℕ} → Rest s (at + width) n 0 l next → next ≤ at + limit → Stands (entries limit) s at l next
+  entries_found {l} {next} r h =
+      let d : length (listing l) ≡ width + length (rows l) =
+      length-append (digits width (length l)) (rows l) ∙ ap (λ (j : ℕ). j + length (rows l)) (length_digits width (length l)) in
+      record {
+        good = (subst (λ (x : ℕ). x < numbers) (sym r.count) counts.good, r.small, r.above, omega (arith, r.long, d));
+        long = omega (arith, r.long, d);
+        within = r.within;
+        is =
+            counts.is
+            ∙ ap (λ (x : ℕ). digits width x ++ drop (at + width) s) (sym r.count)
+            ∙ ap (λ (b : List ℕ). digits width (length l) ++ b) r.is
+            ∙ sym (append_assoc (digits width (length l)) (rows l) (drop next s));
+      }
+
   pub entries_none : NoRest s (at + width) n 0 → Lacks (entries limit) s at
   entries_none k = record {
     no = λ l g rest e. let u = numbered l g rest e in k.no l u.0 g.1 g.2 rest (sym u.1);
@@ -189,3 +204,8 @@ module _ {s : List ℕ} {at n : ℕ} (limit : ℕ) (counts : Stands number s at 
         let w = rows_clear m l (u.0 ∙ sym r.count) g.1 r.small rest (drop next s) (u.1 ∙ r.is) in
         omega (arith, g.3, r.long, length-append (digits width (length m)) (rows m), length_digits width (length m), ap (λ (x : List Entry). length (rows x)) w.0);
   }
+
+pub entries_unnumbered : {s : List ℕ} {at : ℕ} (limit : ℕ) → Lacks number s at → Lacks (entries limit) s at
+entries_unnumbered limit k = record {
+  no = λ l g rest e. k.no (length l) g.0 (rows l ++ rest) (e ∙ append_assoc (digits width (length l)) (rows l) rest);
+}

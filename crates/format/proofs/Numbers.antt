@@ -1,9 +1,9 @@
 -- The laws of numbers as bytes: so many bytes make one number, and a number is written in one way.
 -- Assumes nothing.
 use mathlib.Core.Path.{◌≡◌, refl, sym, ap, ◌∙◌, subst}
-use mathlib.Core.List.{List, ◌∷◌, ◌++◌, head-eq_of_cons-eq, tail-eq_of_cons-eq}
+use mathlib.Core.List.{List, [], ◌∷◌, ◌++◌, head-eq_of_cons-eq, tail-eq_of_cons-eq}
 use Prim.Native.Nat.{ℕ, zero, suc, ◌+◌, ◌*◌, ◌/◌, ◌%◌, ◌^◌, ◌≤◌, ◌<◌}
-use native.Mathlib.Nat.{pow-succ', pow-suc, div-one, div-div-eq-div-mul}
+use native.Mathlib.Nat.{pow-succ', pow-suc, mul_assoc, div-one, div-div-eq-div-mul}
 use native.Mathlib.Omega.{arith}
 use lib.ListN.{length, take, drop, get_or, length-drop}
 use lib.Seq.{drop-cons, length-take-le}
@@ -56,6 +56,46 @@ worth_is (suc k) n p s at rest e =
     let hd : get_or s at 0 ≡ n % base = head-eq_of_cons-eq u in
     let t : worth s (suc at) k ≡ n / base = worth_is k (n / base) (down k n p) s (suc at) rest (tail-eq_of_cons-eq u) in
     omega arith
+
+-- ---- a number from its halves
+
+pub worth_add : (s : List ℕ) (at j k : ℕ) → worth s at (j + k) ≡ worth s at j + base ^ j * worth s (at + j) k
+unfolding worth
+worth_add s at zero k =
+    let e : at + 0 ≡ at = omega arith in
+    let z : 0 + k ≡ k = omega arith in
+    rw (e, z) (omega arith)
+worth_add s at (suc j) k =
+    let e : at + suc j ≡ suc at + j = omega arith in
+    let z : suc j + k ≡ suc (j + k) = omega arith in
+    let h : worth s (suc at) (j + k) ≡ worth s (suc at) j + base ^ j * worth s (suc at + j) k = worth_add s (suc at) j k in
+    let p : base ^ suc j * worth s (suc at + j) k ≡ base * (base ^ j * worth s (suc at + j) k) =
+    ap (λ (x : ℕ). x * worth s (suc at + j) k) (pow-succ' base j) ∙ mul_assoc base (base ^ j) (worth s (suc at + j) k) in
+    rw (e, z) (omega (arith, h, p))
+
+-- two bytes, and the same number of bytes twice
+pub worth_two : (s : List ℕ) (at : ℕ) → get_or s at 0 + 256 * get_or s (at + 1) 0 ≡ worth s at 2
+unfolding worth
+worth_two s at = let e : at + 1 ≡ suc at = omega arith in rw e (omega arith)
+
+pub worth_twice : (s : List ℕ) (at k m : ℕ) → m ≡ base ^ k → {x y : ℕ} → x ≡ worth s at k → y ≡ worth s (at + k) k → x + m * y ≡ worth s at (k + k)
+worth_twice s at k m e p q = rw (e, p, q) (sym (worth_add s at k k))
+
+pub digits_add : (j k n : ℕ) → digits (j + k) n ≡ digits j n ++ digits k (n / base ^ j)
+unfolding digits
+digits_add zero k n =
+    let z : 0 + k ≡ k = omega arith in
+    let o : n / base ^ 0 ≡ n = div-one n in
+    rw (z, o) refl
+digits_add (suc j) k n =
+    let z : suc j + k ≡ suc (j + k) = omega arith in
+    let o : n / base ^ suc j ≡ n / base / base ^ j = ap (λ (x : ℕ). n / x) (pow-succ' base j) ∙ sym (div-div-eq-div-mul n base (base ^ j)) in
+    rw (z, o) (ap (λ (l : List ℕ). n % base ∷ l) (digits_add j k (n / base)))
+
+-- two bytes, written out
+pub digits_two : (n : ℕ) → digits 2 n ≡ n % 256 ∷ n / 256 % 256 ∷ []
+unfolding digits
+digits_two n = refl
 
 -- ---- the library's bytes of a number are these
 

@@ -1,8 +1,9 @@
 -- The laws by which a reader goes: what stands at a place follows from what stands in its parts, and a part that is lacking means that the
 -- whole is. That a reader refuses only what is written in no way comes from `clear` alone.
 -- Assumes nothing.
-use mathlib.Core.Path.{◌≡◌, sym, ap, ◌∙◌, subst}
+use mathlib.Core.Path.{◌≡◌, refl, sym, ap, ◌∙◌, subst}
 use mathlib.Core.List.{List, ◌∷◌, ◌++◌, append_assoc, head-eq_of_cons-eq, tail-eq_of_cons-eq}
+use mathlib.Core.Option.{none, some}
 use Prim.Native.Nat.{ℕ, ◌+◌, ◌≤◌, ◌<◌}
 use native.Mathlib.Omega.{arith}
 use native.Mathlib.Numerals.{add-one}
@@ -11,7 +12,7 @@ use lib.Seq.{drop-cons, drop-drop}
 use Rattle.memory.specs.Bytes.{part}
 use Rattle.memory.proofs.Parts.{length_part}
 use Rattle.format.specs.Number.{base, width, numbers, digits, worth}
-use Rattle.format.specs.Format.{Format, number, string, pair, choice, Of, counted, encode, Good}
+use Rattle.format.specs.Format.{Format, number, string, maybe, pair, choice, Of, counted, encode, Good}
 use Rattle.format.specs.Place.{Stands, Lacks}
 use Rattle.format.proofs.Numbers.{length_digits, worth_small, digits_worth}
 use Rattle.format.proofs.Clear.{clear}
@@ -65,10 +66,18 @@ module _ (s : List ℕ) (at : ℕ) where
             ∙ ap (λ (m : ℕ). (digits width m ++ part s (at + width) n) ++ drop (at + width + n) s) (sym e);
       }
 
+  pub string_unnumbered : (limit : ℕ) → Lacks number s at → Lacks (string limit) s at
+  string_unnumbered limit k = record {
+    no = λ v g rest e. k.no (length v) g.1 (v ++ rest) (e ∙ append_assoc (digits width (length v)) v rest);
+  }
+
   -- its length is the number that stands there
   measured : (limit : ℕ) {n : ℕ} → Stands number s at n (at + width) → (v : List ℕ) → Good (string limit) v → (rest : List ℕ)
       → drop at s ≡ counted v ++ rest → (length v ≡ n) × (v ++ rest ≡ drop (at + width) s)
   measured limit k v g rest e = only k (length v) g.1 (v ++ rest) (e ∙ append_assoc (digits width (length v)) v rest)
+
+  pub string_long : (limit : ℕ) {n : ℕ} → Stands number s at n (at + width) → limit ≤ n → Lacks (string limit) s at
+  string_long limit k p = record { no = λ v g rest e. omega (arith, g.0, (measured limit k v g rest e).0) }
 
   pub string_short : (limit : ℕ) {n : ℕ} → Stands number s at n (at + width) → length s < at + width + n → Lacks (string limit) s at
   string_short limit k h = record {
@@ -79,10 +88,22 @@ module _ (s : List ℕ) (at : ℕ) where
 
   -- ---- .. with a limit, once it was read without
 
+  pub string_limited : {limit : ℕ} (from n : ℕ) → Stands (string numbers) s at (part s from n) (from + n) → n < limit
+      → Stands (string limit) s at (part s from n) (from + n)
+  string_limited {limit} from n k p = record {
+    good = (subst (λ (m : ℕ). m < limit) (sym (length_part s from n k.within)) p, k.good.1);
+    long = k.long;
+    within = k.within;
+    is = k.is;
+  }
+
   pub string_over : {limit : ℕ} (from n : ℕ) → Stands (string numbers) s at (part s from n) (from + n) → limit ≤ n → Lacks (string limit) s at
   string_over {limit} from n k p = record {
     no = λ v g rest q. omega (arith, g.0, ap length (only k v (g.1, g.1) rest q).0, length_part s from n k.within);
   }
+
+  pub string_unlimited : {limit : ℕ} → Lacks (string numbers) s at → Lacks (string limit) s at
+  string_unlimited {limit} k = record { no = λ v g rest q. k.no v (g.1, g.1) rest q }
 
   -- ---- one part after the other
 
@@ -123,10 +144,38 @@ module _ (s : List ℕ) (at : ℕ) where
   headed : {x : ℕ} {l : List ℕ} → at < length s → get_or s at 0 ≡ x → drop (at + 1) s ≡ l → drop at s ≡ x ∷ l
   headed {x} {l} h p e = split h ∙ ap (λ (y : ℕ). y ∷ drop (at + 1) s) p ∙ ap (λ (m : List ℕ). x ∷ m) e
 
+  pub maybe_none : {f : Format} → at < length s → get_or s at 0 ≡ 0 → Stands (maybe f) s at none (at + 1)
+  maybe_none h p = record { good = tt; long = omega arith; within = omega arith; is = headed h p refl }
+
+  pub maybe_some : {f : Format} {v : Of f} {next : ℕ} → at < length s → get_or s at 0 ≡ 1 → Stands f s (at + 1) v next
+      → Stands (maybe f) s at (some v) next
+  maybe_some h p k = record { good = k.good; long = omega (arith, k.long); within = k.within; is = headed h p k.is }
+
+  -- no value of a maybe starts with another byte than 0 and 1, or with 1 and no value behind it
+  maybe_no : {f : Format} → (at < length s → get_or s at 0 ≡ 0 → ⊥) → (at < length s → get_or s at 0 ≡ 1 → Lacks f s (at + 1)) → (v : Of (maybe f))
+      → Good (maybe f) v → (rest : List ℕ) → drop at s ≡ encode (maybe f) v ++ rest → ⊥
+  maybe_no p q none g rest e = let u = starts 0 rest e in p u.0 u.1
+  maybe_no {f} p q (some v) g rest e = let u = starts 1 (encode f v ++ rest) e in (q u.0 u.1).no v g rest u.2
+
+  pub maybe_empty : {f : Format} → length s ≤ at → Lacks (maybe f) s at
+  maybe_empty {f} h = record { no = maybe_no {f = f} (λ l p. absurd (omega arith)) (λ l p. absurd (omega arith)) }
+
+  pub maybe_other : {f : Format} → (get_or s at 0 ≡ 0 → ⊥) → (get_or s at 0 ≡ 1 → ⊥) → Lacks (maybe f) s at
+  maybe_other {f} p q = record { no = maybe_no {f = f} (λ l e. p e) (λ l e. absurd (q e)) }
+
+  pub maybe_lacks : {f : Format} → get_or s at 0 ≡ 1 → Lacks f s (at + 1) → Lacks (maybe f) s at
+  maybe_lacks {f} p k = record { no = maybe_no {f = f} (λ l e. omega arith) (λ l e. k) }
+
   module _ (n : ℕ) (fs : ℕ → Format) where
     pub choice_found : {t : ℕ} {v : Of (fs t)} {next : ℕ} → at < length s → get_or s at 0 ≡ t → t < n → Stands (fs t) s (at + 1) v next
         → Stands (choice n fs) s at (t, v) next
     choice_found h p q k = record { good = (q, k.good); long = omega (arith, k.long); within = k.within; is = headed h p k.is }
+
+    pub choice_empty : length s ≤ at → Lacks (choice n fs) s at
+    choice_empty h = record { no = λ v g rest e. omega (arith, (starts v.0 (encode (fs v.0) v.1 ++ rest) e).0) }
+
+    pub choice_other : n ≤ get_or s at 0 → Lacks (choice n fs) s at
+    choice_other h = record { no = λ v g rest e. omega (arith, g.0, (starts v.0 (encode (fs v.0) v.1 ++ rest) e).1) }
 
     pub choice_lacks : (t : ℕ) → get_or s at 0 ≡ t → Lacks (fs t) s (at + 1) → Lacks (choice n fs) s at
     choice_lacks t p k = record {

@@ -5,7 +5,7 @@ use mathlib.Core.List.{List, [], ◌++◌, append_assoc, append-nil}
 use Prim.Native.Nat.{ℕ, ◌+◌, ◌-◌, ◌≤◌}
 use native.Mathlib.Omega.{arith}
 use lib.ListN.{length, take, drop, get_or, length-append, length-drop, get_or-append}
-use lib.Seq.{drop-drop, length-take-le, drop-append-le, take-append-le, take_at, drop_at}
+use lib.Seq.{paste, take-paste, drop-paste, take-add, drop-drop, take-length, length-take-le, drop-append-le, take-append-le, take_at, drop_at}
 use Rattle.memory.specs.Bytes.{part, placed}
 
 module _ (d : List ℕ) (at : ℕ) (s : List ℕ) (h : at + length s ≤ length d) where
@@ -69,3 +69,21 @@ length_part s at n h = length-take-le n (drop at s) (omega (arith, length-drop a
 -- what code takes as `&bytes[at..at + n]` is the part of n bytes
 pub part_taken : (s : List ℕ) (at n : ℕ) → take (at + n - at) (drop at s) ≡ part s at n
 part_taken s at n = let e : at + n - at ≡ n = omega arith in rw e refl
+
+-- a copy of m elements and then of the n after them is the copy of m + n
+pub paste_more : (d : List ℕ) (at : ℕ) (s : List ℕ) (m n : ℕ) → at + m + n ≤ length d → m + n ≤ length s
+    → paste (paste d at s m) (at + m) (drop m s) n ≡ paste d at s (m + n)
+paste_more d at s m n hd hs =
+    let ad : at ≤ length d = omega arith in
+    let ms : m ≤ length s = omega arith in
+    let e : at + m + n ≡ at + (m + n) = omega arith in
+    rw (take-paste d at s m ad ms, ← drop-drop n (at + m) (paste d at s m), drop-paste d at s m ad ms, drop-drop n (at + m) d, e, take-add m n s)
+    (ap (λ (l : List ℕ). l ++ drop (at + (m + n)) d) (append_assoc (take at d) (take m s) (take n (drop m s))))
+
+-- the copy of all of s
+pub paste_all : (d : List ℕ) (at : ℕ) (s : List ℕ) → paste d at s (length s) ≡ placed d at s
+paste_all d at s = rw (take-length s)
+
+-- only the first n elements of what is copied matter
+pub paste_same : (d : List ℕ) (at : ℕ) (s t : List ℕ) (n : ℕ) → take n s ≡ take n t → paste d at s n ≡ paste d at t n
+paste_same d at s t n e = rw e

@@ -5,6 +5,7 @@
 
 ghost use Rattle.std.specs.Prelude.{◌≡◌, ◌-◌, ◌<◌, ◌≤◌, length, get_or};
 ghost use Rattle.delegation.specs.Map.{Whole};
+ghost use Rattle.searches.specs.Search.{Before};
 ghost use Rattle.plans.specs.Plan.{Through, EndsWith, Planned, turned};
 
 use keys::Bound;
@@ -40,7 +41,7 @@ pub fn planned(lows: &[u64], owners: &[u64], n: usize, lo: Bound, hi: Bound, own
         };
     }
     let last = through(lows, n, hi);
-    let first = searches::before(lows, last, lo);
+    let first = before(lows, last, lo);
     let joined = ends_with(owners, first, owner);
     let after = owner_of(owners, last);
     let high = turns(hi, after, owner);
@@ -67,11 +68,26 @@ pub fn whole(lows: &[u64], owners: &[u64], n: usize, lo: Bound, hi: Bound, owner
         return true;
     }
     let at = through(lows, n, lo);
-    let end = searches::before(lows, n, hi);
+    let end = before(lows, n, hi);
     if at != end {
         return false;
     }
     ends_with(owners, at, owner)
+}
+
+// How many of the first `among` bounds lie below b. End is no key: every bound lies below it.
+fn before(lows: &[u64], among: usize, b: Bound) -> usize
+    ensures { Before lows.now among b result }
+{
+    match b {
+        Bound::Key(k) => {
+            if k == 0 {
+                return 0;
+            }
+            delegation::upto(lows, among, k - 1)
+        }
+        Bound::End => among,
+    }
 }
 
 // How many of the n bounds lie at b or below it.

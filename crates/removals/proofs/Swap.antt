@@ -2,17 +2,24 @@
 -- Assumes nothing.
 use mathlib.Core.Path.{◌≡◌, refl, sym, ap, ◌∙◌}
 use mathlib.Core.Logic.{◌⊎◌, inl, inr, ⊎_elim}
-use mathlib.Core.List.{List}
+use mathlib.Core.List.{List, [], ◌∷◌}
 use Prim.Native.Nat.{ℕ, ◌<◌}
 use native.Mathlib.Omega.{arith}
 use lib.ListN.{length, get_or, set, length-set}
 use lib.Seq.{get_or-set_same, get_or-set_other}
+use Rattle.std.specs.List.{swap}
+use Rattle.std.proofs.lemmas.Grind.{get_or_default_zero}
 use Rattle.columns.proofs.Cases.{eq_or_ne}
 use Rattle.records.specs.Memory.{Slots}
 
 -- what stood at a and what stood at b, each at the other's place
 abbrev pub swapped : List ℕ → ℕ → ℕ → List ℕ
 swapped l a b = set (set l a (get_or l b 0)) b (get_or l a 0)
+
+-- the library says it with what stands at the front in place of 0
+pub swap_is : (l : List ℕ) (a b : ℕ) → a < length l → b < length l → swap l a b ≡ swapped l a b
+swap_is [] a b p q = absurd (omega arith)
+swap_is (d ∷ l) a b p q = rw (get_or_default_zero (d ∷ l) b d q, get_or_default_zero (d ∷ l) a d p)
 
 pub length_swapped : (l : List ℕ) (a b : ℕ) → length (swapped l a b) ≡ length l
 length_swapped l a b = simp length-set

@@ -46,10 +46,20 @@ fn span(keys: &mut [u64], slots: &mut [u64], n: usize, i: usize, j: usize) -> us
     n - (j - i)
 }
 
-// Moves those from j on down to i, and those from i up to j behind them.
+// Moves those from j on down to i, and those from i up to j behind them, by swapping one by one: as many swaps as
+// there are to move down. Where one goes, that is to turn the part by one, which is a single move.
 fn sink(slots: &mut [u64], n: usize, i: usize, j: usize)
     requires { (i ≤ j) × (j ≤ n) × (n ≤ length slots.old) }
     ensures { Sunk slots.old n i j slots.new }
 {
-    slots[i..n].rotate_left(j - i);
+    let gone = j - i;
+    if gone == 1 {
+        slots[i..n].rotate_left(1);
+        return;
+    }
+    for from in j..n {
+        let slot = slots[from - gone];
+        slots[from - gone] = slots[from];
+        slots[from] = slot;
+    }
 }

@@ -26,7 +26,7 @@ pub fn find(places: &[u64], peer: usize, number: u64) -> Option<usize>
 fn is_for(mark: u64, peer: usize) -> bool
     ensures { (result ≡ true → mark ≡ suc peer) × (result ≡ false → mark ≡ suc peer → ⊥) }
 {
-    mark.checked_sub(1) == Some(peer as u64)
+    mark != 0 && mark - 1 == peer as u64
 }
 
 // Writes down the places of all messages that wait for the first n peers, and answers how many. At most as many are written down

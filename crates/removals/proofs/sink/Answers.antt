@@ -1,22 +1,20 @@
--- `removals::sink` meets its contract. The part from i up to n is turned: those from j on come first, and a permutation stays one.
+-- `removals::sink` meets its contract. Where one goes, the part from i up to n is turned: those from j on come first. Else each turn of the loop
+-- swaps two places: those from j up to `from` stand from i on, those before i and from `from` on as at first. A permutation stays one.
 -- Assumes nothing.
 use mathlib.Core.Path.{◌≡◌, sym, ap, ◌∙◌, subst}
-use mathlib.Core.List.{List, [], ◌∷◌, ◌++◌}
+use mathlib.Core.Logic.{⊎_elim}
+use mathlib.Core.List.{List, ◌++◌}
 use Prim.Native.Nat.{ℕ, ◌+◌, ◌-◌, ◌≤◌, ◌<◌}
 use native.Mathlib.Omega.{arith}
 use lib.ListN.{length, take, drop, get_or, get_or-append}
 use lib.Seq.{length-take-le, get_or-append-add, get_or-take, get_or-drop}
 use borrow.Rule.Slice.PartMut.{mid_of, post_of, put_mid, mid_len}
-use Rattle.std.specs.List.{swap, RotatedLeft}
-use Rattle.std.proofs.lemmas.Grind.{get_or_default_zero}
+use Rattle.std.specs.List.{RotatedLeft}
 use Rattle.std.proofs.lemmas.List.Sorted.{IsPermutation-keeps, IsPermutation-put_mid}
+use Rattle.columns.proofs.Cases.{lt_or_ge}
 use Rattle.records.specs.Memory.{Slots}
-use Rattle.removals.proofs.Swap.{swapped, swap_slots}
+use Rattle.removals.proofs.Swap.{swapped, swap_is, length_swapped, swap_first, swap_other, swap_slots}
 use Rattle.removals.proofs.sink.Goals as goal
-
-swap_is : (l : List ℕ) (a b : ℕ) → a < length l → b < length l → swap l a b ≡ swapped l a b
-swap_is [] a b p q = absurd (omega arith)
-swap_is (d ∷ l) a b p q = rw (get_or_default_zero (d ∷ l) b d q, get_or_default_zero (d ∷ l) a d p)
 
 module _ (s : List ℕ) (n i j : ℕ) (ij : i ≤ j) (jn : j ≤ n) (ns : n ≤ length s) (t : List ℕ) (long : length t ≡ length (mid_of i (n - i) s)) where
   turned : List ℕ
@@ -42,16 +40,40 @@ module _ (s : List ℕ) (n i j : ℕ) (ij : i ≤ j) (jn : j ≤ n) (ns : n ≤ 
       ∙ get_or-drop i s (y + (j - i)) 0
       ∙ ap (λ (k : ℕ). get_or s k 0) e
 
-pub returns : goal.returns
+pub returns-then-gone-eq1 : goal.returns-then-gone-eq1
 unfolding turned
-returns c =
+returns-then-gone-eq1 c =
     let a = c.args in
     let s : List ℕ = a.slots.now in
     let t = c.rotate_left.new.self in
     let r = c.rotate_left.ensures in
     record {
       before = before s a.n a.i a.j c.requires.0 c.requires.1 c.requires.2 t r.len;
-      after = after s a.n a.i a.j c.requires.0 c.requires.1 c.requires.2 t r.len r.by_index;
+      after = after s a.n a.i a.j c.requires.0 c.requires.1 c.requires.2 t r.len (rw c.if-gone-eq1.true r.by_index);
       keeps = λ k. IsPermutation-keeps s Slots k (λ l x y p q h. subst Slots (sym (swap_is l x y p q)) (swap_slots l x y p q h)) _
           (IsPermutation-put_mid a.i (a.n - a.i) s t r.permutation);
     }
+
+pub loop-from-preserved : goal.loop-from-preserved
+loop-from-preserved c =
+    let l = c.loop-from in
+    let a = c.args in
+    let s : List ℕ = l.slots in
+    let f : ℕ = l.from in
+    let t : ℕ = l.from - (a.j - a.i) in
+    let pf : f < length s = omega (arith, l.invariant.0) in
+    let pt : t < length s = omega (arith, l.invariant.0) in
+    let other : (x : ℕ) → (x ≡ t → ⊥) → (x ≡ f → ⊥) → get_or (swapped s t f) x 0 ≡ get_or s x 0 = swap_other s t f pt pf in (
+      length_swapped s t f ∙ l.invariant.0,
+      λ x p. other x (omega arith) (omega arith) ∙ l.invariant.1 x p,
+      λ y p.
+          ⊎_elim
+          (λ q. other (a.i + y) (omega arith) (omega arith) ∙ l.invariant.2 y q)
+          (λ q.
+          let e : a.i + y ≡ t = omega arith in
+          let d : f ≡ a.j + y = omega arith in
+          ap (λ (x : ℕ). get_or (swapped s t f) x 0) e ∙ swap_first s t f pt pf ∙ l.invariant.3 f (omega arith) ∙ ap (λ (x : ℕ). get_or a.slots.now x 0) d)
+          (lt_or_ge (a.j + y) f),
+      λ x p. other x (omega arith) (omega arith) ∙ l.invariant.3 x (omega arith),
+      λ h. swap_slots s t f pt pf (l.invariant.4 h),
+    )
